@@ -21,12 +21,12 @@ use Rattle.planes.specs.declared.frame_planes.FramePlanes.{FramePlanes}
 use Rattle.plane_parts.specs.PlaneParts.{IsInArea}
 use Rattle.block_rebuild.specs.InterBlocks.{Rebuilding, ReferencePicture}
 use Rattle.block_rebuild.specs.Strips.{IsIn, in_plane, strip_area, strip_places, with_blocks}
-use Rattle.frame_state.specs.ColumnPlans.{ColumnRead}
-use Rattle.frame_state.specs.FrameReading.{FrameRead}
-use Rattle.frame_state.specs.Sources.{FrameSources}
-use Rattle.frame_state.proofs.TileOffsets.{offset_low, part_at, place_below, place_from, place_to}
-use Rattle.column_order.specs.ColumnStrips.{column_from, column_to}
-use Rattle.column_order.proofs.FrameStrips.{frame_strips}
+use Rattle.recon_rows.specs.frame_state.ColumnPlans.{ColumnRead}
+use Rattle.recon_rows.specs.frame_state.FrameReading.{FrameRead}
+use Rattle.recon_rows.specs.frame_state.Sources.{FrameSources}
+use Rattle.recon_rows.proofs.of_frame_state.TileOffsets.{offset_low, part_at, place_below, place_from, place_to}
+use Rattle.recon_rows.specs.column_order.ColumnStrips.{column_from, column_to}
+use Rattle.recon_rows.proofs.of_column_order.FrameStrips.{frame_strips}
 use Rattle.recon_rows.specs.OwnStrips.{HasStripAreas}
 use Rattle.loop_filter.specs.Laws.{first_own}
 use Rattle.column_strips.specs.Laws.{AreColumnStrips, AreFrameColumns, rebuilding}

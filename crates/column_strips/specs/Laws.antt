@@ -7,10 +7,10 @@ use Rattle.frame_headers.specs.HeaderState.{shape_of}
 use Rattle.counting_reader.specs.Counting.{Settled}
 use Rattle.planes.specs.declared.frame_planes.FramePlanes.{FramePlanes}
 use Rattle.block_rebuild.specs.InterBlocks.{Rebuilding, ReferencePicture}
-use Rattle.frame_state.specs.ColumnPlans.{ColumnRead, plan_of, tile_bytes}
-use Rattle.frame_state.specs.FrameReading.{FrameRead, read_all_tiles}
-use Rattle.frame_state.specs.Sources.{FrameSources}
-use Rattle.column_order.specs.ColumnStrips.{column_from, column_to}
+use Rattle.recon_rows.specs.frame_state.ColumnPlans.{ColumnRead, plan_of, tile_bytes}
+use Rattle.recon_rows.specs.frame_state.FrameReading.{FrameRead, read_all_tiles}
+use Rattle.recon_rows.specs.frame_state.Sources.{FrameSources}
+use Rattle.recon_rows.specs.column_order.ColumnStrips.{column_from, column_to}
 use Rattle.recon_rows.specs.OwnStrips.{HoldsStrip}
 
 -- a frame's blocks and its tile columns, each of them read by itself

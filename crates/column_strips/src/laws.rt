@@ -15,9 +15,9 @@ ghost use Rattle.planes.specs.declared.frame_planes.FramePlanes.{FramePlanes};
 ghost use Rattle.block_rebuild.specs.RebuiltBlocks.{put_planned};
 ghost use Rattle.block_rebuild.specs.InterBlocks.{Rebuilding, ReferencePicture};
 ghost use Rattle.block_rebuild.specs.Strips.{with_blocks};
-ghost use Rattle.frame_state.specs.ColumnPlans.{ColumnRead};
-ghost use Rattle.frame_state.specs.FrameReading.{FrameRead};
-ghost use Rattle.frame_state.specs.Sources.{FrameSources};
+ghost use Rattle.recon_rows.specs.frame_state.ColumnPlans.{ColumnRead};
+ghost use Rattle.recon_rows.specs.frame_state.FrameReading.{FrameRead};
+ghost use Rattle.recon_rows.specs.frame_state.Sources.{FrameSources};
 ghost use Rattle.column_strips.specs.StripRows.{AreRow};
 ghost use Rattle.column_strips.specs.Laws.{AreColumnStrips, AreFrameColumns, rebuilding};
 

@@ -14,6 +14,8 @@ mod sizes;
 mod starts;
 mod symbols;
 
+pub use drawn_symbols;
+pub use frame_writer;
 pub use frames::is_drawn_frame;
 pub use heads::{DrawnHead, draw_head};
 pub use modes::draw_frame_modes;

@@ -9,12 +9,12 @@ use Rattle.frame_headers.specs.Spans.{tile_count}
 use Rattle.frame_headers.specs.HeaderState.{shape_of}
 use Rattle.frame_headers.specs.declared.header.Header.{Header}
 use Rattle.frame_setting.specs.declared.setting.FrameSetting.{FrameSetting}
-use Rattle.frame_state.specs.KeptColumns.{IsTileColumn, limit_of}
-use Rattle.frame_state.specs.TilePlaces.{tile_offset, tile_places}
-use Rattle.frame_state.specs.declared.tile_places.TilePlaces.{TilePlaces}
-use Rattle.frame_state.proofs.TileOffsets.{offset_grows, offset_low}
-use Rattle.tile_syntax.specs.declared.plans.ColumnPlan.{ColumnPlan}
-use Rattle.column_order.specs.ColumnStrips.{column_from, column_to}
+use Rattle.seq_decoder.specs.frame_state.KeptColumns.{IsTileColumn, limit_of}
+use Rattle.seq_decoder.specs.frame_state.TilePlaces.{tile_offset, tile_places}
+use Rattle.seq_decoder.specs.frame_state.declared.tile_places.TilePlaces.{TilePlaces}
+use Rattle.seq_decoder.proofs.of_frame_state.TileOffsets.{offset_grows, offset_low}
+use Rattle.recon_rows.specs.tile_syntax.declared.plans.ColumnPlan.{ColumnPlan}
+use Rattle.recon_rows.specs.column_order.ColumnStrips.{column_from, column_to}
 use Rattle.vp9_types.specs.declared.shape.Shape.{Shape}
 use Rattle.planes.specs.declared.frame_planes.FramePlanes.{FramePlanes}
 use Rattle.recon_rows.specs.OwnStrips.{HasStripAreas}

@@ -23,11 +23,11 @@ use Rattle.inter_modes.specs.LeftSegments.{segments_after, segments_of, updates}
 use Rattle.recon_rows.proofs.RowSteps.{in_column}
 use Rattle.vp9_types.specs.Maps.{Map}
 use Rattle.frame_setting.specs.declared.setting.FrameSetting.{FrameSetting}
-use Rattle.frame_state.specs.KeptColumns.{AllFit, AllLie, AllSmall, AllStart, IsTileColumn, limit_of}
-use Rattle.frame_state.specs.TilePlaces.{tile_offset}
-use Rattle.frame_state.specs.declared.columns.TileColumn.{TileColumn}
-use Rattle.frame_state.proofs.TileOffsets.{column_ends}
-use Rattle.column_order.specs.ColumnStrips.{column_from}
+use Rattle.seq_decoder.specs.frame_state.KeptColumns.{AllFit, AllLie, AllSmall, AllStart, IsTileColumn, limit_of}
+use Rattle.seq_decoder.specs.frame_state.TilePlaces.{tile_offset}
+use Rattle.seq_decoder.specs.frame_state.declared.columns.TileColumn.{TileColumn}
+use Rattle.seq_decoder.proofs.of_frame_state.TileOffsets.{column_ends}
+use Rattle.recon_rows.specs.column_order.ColumnStrips.{column_from}
 
 some_power : (n : ℕ) → 0 < 2 ^ n
 some_power n = pow_pos n

@@ -5,23 +5,23 @@ use Rattle.std.proofs.lemmas.List.{get_or-map, get_or_default, length-map, same_
 use Rattle.vp9_types.specs.declared.job.Span.{Span}
 use Rattle.vp9_types.specs.declared.rule.Rule.{Rule}
 use Rattle.frame_headers.specs.Spans.{tile_spans}
-use Rattle.frame_state.specs.KeptColumns.{AreColumnsOf, HasStarts, blocks_of}
-use Rattle.frame_state.specs.ColumnPlans.{plan_of, tile_bytes}
-use Rattle.frame_state.specs.FrameReading.{Column, FrameRead, blocks_read, infos, no_column, read_all_tiles}
+use Rattle.seq_decoder.specs.frame_state.KeptColumns.{AreColumnsOf, HasStarts, blocks_of}
+use Rattle.seq_decoder.specs.frame_state.ColumnPlans.{plan_of, tile_bytes}
+use Rattle.seq_decoder.specs.frame_state.FrameReading.{Column, FrameRead, blocks_read, infos, no_column, read_all_tiles}
 use Rattle.frame_headers.specs.HeaderState.{shape_of}
-use Rattle.frame_state.specs.Sources.{FrameSources, adapts}
-use Rattle.frame_state.specs.declared.columns.TileColumn.{TileColumn}
-use Rattle.frame_state.specs.declared.halt.Halt.{Halt}
-use Rattle.frame_state.specs.declared.halt.Halt.TheVariants as halt
-use Rattle.frame_state.proofs.PlanReads.{reads_columns}
+use Rattle.seq_decoder.specs.frame_state.Sources.{FrameSources, adapts}
+use Rattle.seq_decoder.specs.frame_state.declared.columns.TileColumn.{TileColumn}
+use Rattle.seq_decoder.specs.frame_state.declared.halt.Halt.{Halt}
+use Rattle.seq_decoder.specs.frame_state.declared.halt.Halt.TheVariants as halt
+use Rattle.seq_decoder.proofs.of_frame_state.PlanReads.{reads_columns}
 use Rattle.frame_steps.proofs.ReadColumns.{infos_of, many_read}
 use Rattle.counting_reader.specs.Counting.{Settled}
-use Rattle.frame_state.specs.ColumnPlans.{ColumnRead}
+use Rattle.seq_decoder.specs.frame_state.ColumnPlans.{ColumnRead}
 use Rattle.frame_close.specs.Code.{AreColumnResults, GivesColumn, GivesFrame}
-use Rattle.frame_decoder.specs.declared.decoding.Decoded.{Decoded}
+use Rattle.seq_decoder.specs.frame_decoder.declared.decoding.Decoded.{Decoded}
 use Rattle.prob_contexts.specs.ProbLists.{lists_of}
-use Rattle.tile_syntax.specs.declared.plans.Unplanned.{Unplanned}
-use Rattle.tile_syntax.specs.declared.plans.Unplanned.TheVariants as unplanned
+use Rattle.recon_rows.specs.tile_syntax.declared.plans.Unplanned.{Unplanned}
+use Rattle.recon_rows.specs.tile_syntax.declared.plans.Unplanned.TheVariants as unplanned
 use Rattle.frame_steps.specs.StepResults.{AreAsRead, AreCopies, GivesDecoded, IsCopyAsRead, IsSound, sources_by}
 use Rattle.frame_steps.specs.declared.beginning.BegunFrame.{BegunFrame}
 use Rattle.frame_steps.proofs.Joining.{none, ok_of}

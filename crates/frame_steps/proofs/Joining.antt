@@ -6,14 +6,14 @@ use Rattle.std.proofs.lemmas.List.{get_or_append_left, length-append}
 use Rattle.std.proofs.Math.Seq.{get_or-append_seam}
 use Rattle.vp9_types.specs.declared.job.Span.{Span}
 use Rattle.frame_headers.specs.Spans.{tile_count, tile_spans}
-use Rattle.frame_state.specs.KeptColumns.{IsTileColumn}
-use Rattle.frame_state.specs.Laws.{columns_across}
-use Rattle.frame_state.specs.ColumnPlans.{plan_of, tile_bytes}
-use Rattle.frame_state.specs.Sources.{adapts}
-use Rattle.frame_state.specs.declared.columns.TileColumn.{TileColumn}
+use Rattle.seq_decoder.specs.frame_state.KeptColumns.{IsTileColumn}
+use Rattle.seq_decoder.specs.frame_state.Laws.{columns_across}
+use Rattle.seq_decoder.specs.frame_state.ColumnPlans.{plan_of, tile_bytes}
+use Rattle.seq_decoder.specs.frame_state.Sources.{adapts}
+use Rattle.seq_decoder.specs.frame_state.declared.columns.TileColumn.{TileColumn}
 use Rattle.frame_close.specs.Code.{GivesColumn, result_at}
-use Rattle.tile_syntax.specs.declared.plans.Unplanned.{Unplanned}
-use Rattle.tile_syntax.specs.declared.plans.Unplanned.TheVariants as unplanned
+use Rattle.recon_rows.specs.tile_syntax.declared.plans.Unplanned.{Unplanned}
+use Rattle.recon_rows.specs.tile_syntax.declared.plans.Unplanned.TheVariants as unplanned
 use Rattle.frame_steps.specs.StepResults.{AreCopies, IsColumn, IsCopyAsRead, IsSound, sources_by}
 use Rattle.frame_steps.specs.declared.beginning.BegunFrame.{BegunFrame}
 use Rattle.frame_steps.specs.declared.columns.PlannedColumn.{PlannedColumn}

@@ -17,15 +17,15 @@ use Rattle.block_plan.specs.declared.block.Prediction.TheVariants.{Intra, Inter}
 use Rattle.inter_contexts.specs.BlockReferences.{reference_in, second_in_range}
 use Rattle.inter_modes.specs.Code.{RefersInRange}
 use Rattle.band_needs.specs.Code.{CanBePlaced, HasShape, HasShapes}
-use Rattle.frame_state.specs.KeptColumns.{IsTileColumn}
-use Rattle.frame_state.specs.ColumnPlans.{plan_of, tile_bytes}
-use Rattle.frame_state.specs.Sources.{FrameSources, adapts}
-use Rattle.frame_state.specs.declared.columns.TileColumn.{TileColumn}
+use Rattle.seq_decoder.specs.frame_state.KeptColumns.{IsTileColumn}
+use Rattle.seq_decoder.specs.frame_state.ColumnPlans.{plan_of, tile_bytes}
+use Rattle.seq_decoder.specs.frame_state.Sources.{FrameSources, adapts}
+use Rattle.seq_decoder.specs.frame_state.declared.columns.TileColumn.{TileColumn}
 use Rattle.frame_close.proofs.Joined.{column_gives}
 use Rattle.seq_decoder.proofs.PastLemmas.{is_reference}
-use Rattle.tile_syntax.specs.Code.{GivesPlan, IsKept}
-use Rattle.tile_syntax.specs.declared.plans.ColumnPlan.{ColumnPlan}
-use Rattle.tile_syntax.specs.declared.plans.Unplanned.{Unplanned}
+use Rattle.recon_rows.specs.tile_syntax.Code.{GivesPlan, IsKept}
+use Rattle.recon_rows.specs.tile_syntax.declared.plans.ColumnPlan.{ColumnPlan}
+use Rattle.recon_rows.specs.tile_syntax.declared.plans.Unplanned.{Unplanned}
 use Rattle.frame_steps.specs.StepResults.{AreRowNeeds, HaveSizes, IsColumn, shapes_by, sources_by}
 use Rattle.frame_steps.specs.declared.beginning.BegunFrame.{BegunFrame}
 use Rattle.frame_steps.specs.declared.columns.PlannedColumn.{PlannedColumn}

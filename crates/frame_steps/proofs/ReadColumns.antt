@@ -15,10 +15,10 @@ use Rattle.counting_reader.specs.Counting.{Settled}
 use Rattle.block_geometry.specs.FrameShapes.{places_of}
 use Rattle.block_plan.specs.declared.block.BlockInfo.{BlockInfo}
 use Rattle.column_plan.specs.PlannedBlocks.{count_of, planned_blocks}
-use Rattle.frame_state.specs.Laws.{columns_across}
-use Rattle.frame_state.specs.FrameReading.{FrameRead, TileRead, column_after, column_at, infos, no_column, nothing_read, read_all_tiles, read_tile, read_tile_of, read_tiles, with_tile}
-use Rattle.frame_state.specs.TilePlaces.{column_of, tile_places}
-use Rattle.frame_state.specs.Sources.{FrameSources}
+use Rattle.seq_decoder.specs.frame_state.Laws.{columns_across}
+use Rattle.seq_decoder.specs.frame_state.FrameReading.{FrameRead, TileRead, column_after, column_at, infos, no_column, nothing_read, read_all_tiles, read_tile, read_tile_of, read_tiles, with_tile}
+use Rattle.seq_decoder.specs.frame_state.TilePlaces.{column_of, tile_places}
+use Rattle.seq_decoder.specs.frame_state.Sources.{FrameSources}
 
 ---- How many tile columns are read ----
 

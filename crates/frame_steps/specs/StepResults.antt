@@ -15,32 +15,32 @@ use Rattle.band_needs.specs.Needs.{needs_of}
 use Rattle.band_needs.specs.declared.blocks.ReferenceShapes.{ReferenceShapes}
 use Rattle.band_needs.specs.declared.ranges.BandNeeds.{BandNeeds}
 use Rattle.recon_rows.specs.RebuiltRows.{blocks_between}
-use Rattle.tile_syntax.specs.declared.plans.ColumnPlan.{ColumnPlan}
-use Rattle.frame_decoder.specs.DecodedFrames.{FrameResult}
+use Rattle.recon_rows.specs.tile_syntax.declared.plans.ColumnPlan.{ColumnPlan}
+use Rattle.seq_decoder.specs.frame_decoder.DecodedFrames.{FrameResult}
 use Rattle.frame_headers.specs.Tiles.{AreFewTiles}
 use Rattle.frame_headers.specs.declared.header.Header.{Header}
 use Rattle.inter_contexts.specs.BlockReferences.{reference_in}
 use Rattle.vp9_types.specs.declared.block.ReferenceFrame.{ReferenceFrame}
 use Rattle.prob_contexts.specs.ProbLists.{lists_of}
-use Rattle.frame_state.specs.Code.{IsBegun, counts_if}
-use Rattle.frame_state.specs.KeptColumns.{AreColumnsOf, HasStarts, IsTileColumn, blocks_of}
-use Rattle.frame_state.specs.Laws.{columns_across}
-use Rattle.frame_state.specs.ColumnPlans.{plan_of, tile_bytes}
-use Rattle.frame_state.specs.FrameReading.{FrameInput, FrameRead, blocks_read, read_all_tiles}
-use Rattle.frame_state.specs.Sources.{FramePast, FrameSources, adapts}
-use Rattle.frame_state.specs.declared.columns.TileColumn.{TileColumn}
-use Rattle.frame_state.specs.declared.halt.Halt.{Halt}
-use Rattle.frame_state.specs.declared.halt.Halt.TheVariants as halt
-use Rattle.frame_decoder.specs.declared.decoding.Decoded.{Decoded}
+use Rattle.seq_decoder.specs.frame_state.Code.{IsBegun, counts_if}
+use Rattle.seq_decoder.specs.frame_state.KeptColumns.{AreColumnsOf, HasStarts, IsTileColumn, blocks_of}
+use Rattle.seq_decoder.specs.frame_state.Laws.{columns_across}
+use Rattle.seq_decoder.specs.frame_state.ColumnPlans.{plan_of, tile_bytes}
+use Rattle.seq_decoder.specs.frame_state.FrameReading.{FrameInput, FrameRead, blocks_read, read_all_tiles}
+use Rattle.seq_decoder.specs.frame_state.Sources.{FramePast, FrameSources, adapts}
+use Rattle.seq_decoder.specs.frame_state.declared.columns.TileColumn.{TileColumn}
+use Rattle.seq_decoder.specs.frame_state.declared.halt.Halt.{Halt}
+use Rattle.seq_decoder.specs.frame_state.declared.halt.Halt.TheVariants as halt
+use Rattle.seq_decoder.specs.frame_decoder.declared.decoding.Decoded.{Decoded}
 use Rattle.frame_close.specs.Code.{GivesColumn, result_at}
-use Rattle.tile_syntax.specs.declared.plans.Unplanned.{Unplanned}
+use Rattle.recon_rows.specs.tile_syntax.declared.plans.Unplanned.{Unplanned}
 use Rattle.seq_decoder.specs.After.{decoded_in, input_of, segments_before, vectors_before}
 use Rattle.seq_decoder.specs.Code.{HasPlaces, last_held, saved_lists, segments_held}
 use Rattle.seq_decoder.specs.SavedContexts.{saved_before}
 use Rattle.seq_decoder.specs.DecoderState.{State, last_size}
 use Rattle.frame_steps.specs.declared.beginning.BegunFrame.{BegunFrame}
 use Rattle.frame_steps.specs.declared.columns.PlannedColumn.{PlannedColumn}
-use Rattle.tile_syntax.specs.Code.{IsPlanAsRead}
+use Rattle.recon_rows.specs.tile_syntax.Code.{IsPlanAsRead}
 
 ---- How a frame begins ----
 

@@ -9,15 +9,15 @@ ghost use Rattle.seq_decoder.specs.Code.{HasPlaces, LiesWithin, segments_held};
 ghost use Rattle.seq_decoder.specs.DecoderState.{State};
 ghost use Rattle.frame_steps.specs.Kept.{MayFollow, StandsFor};
 ghost use Rattle.frame_steps.specs.StepResults.{GivesBegun, HaveSizes, IsSound, sources_by};
-ghost use Rattle.frame_state.specs.Code.{sources_of};
-ghost use Rattle.frame_state.specs.Past.{IsPastOf};
+ghost use Rattle.seq_decoder.specs.frame_state.Code.{sources_of};
+ghost use Rattle.seq_decoder.specs.frame_state.Past.{IsPastOf};
 
 use crate::kept::Kept;
 use block_plan::SegmentMap;
 use frame_headers::{FrameSize, Header};
 use frame_setting::FrameSetting;
-use frame_state::{FramePast, FrameSources, Halt, begin_frame};
 use prob_contexts::Contexts;
+use seq_decoder::frame_state::{FramePast, FrameSources, Halt, begin_frame};
 use seq_decoder::{
     LastFrame, SavedContexts, begin_segments, has_size, loses_past, saved_place, segments_of,
     vectors_before,

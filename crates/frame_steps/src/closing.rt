@@ -8,11 +8,11 @@ use crate::beginning::BegunFrame;
 use crate::columns::PlannedColumns;
 use crate::copying::copied_column;
 use frame_close::close as join;
-use frame_decoder::Decoded;
-use frame_state::{Halt, TileColumn};
 use prob_contexts::Counts;
+use recon_rows::tile_syntax::Unplanned;
+use seq_decoder::frame_decoder::Decoded;
+use seq_decoder::frame_state::{Halt, TileColumn};
 use std::alloc::{AllocError, Global};
-use tile_syntax::Unplanned;
 
 /// What is kept of tile columns: what was counted in each, as it is lent, or why it isn't planned; and copies of the columns, if all are planned.
 #[derive(Drop)]

@@ -7,8 +7,8 @@ use crate::beginning::BegunFrame;
 use crate::needs::row_needs;
 use band_needs::BandNeeds;
 use prob_contexts::Counts;
+use recon_rows::tile_syntax::{ColumnPlan, Unplanned, column};
 use std::alloc::Global;
-use tile_syntax::{ColumnPlan, Unplanned, column};
 
 /// The plan of a tile column, what was counted in it, if the frame's probabilities are adapted, and the bands of the frame's
 /// references that each of its rows of superblocks is predicted from.

@@ -3,12 +3,12 @@
 ghost use Rattle.std.specs.Prelude.{◌≡◌, ◌<◌, ◌^◌, IfOk};
 ghost use Rattle.frame_headers.specs.Spans.{tile_count};
 ghost use Rattle.frame_headers.specs.Tiles.{AreFewTiles};
-ghost use Rattle.frame_state.specs.KeptColumns.{IsTileColumn};
+ghost use Rattle.seq_decoder.specs.frame_state.KeptColumns.{IsTileColumn};
 
 use block_plan::BlockGrid;
 use frame_setting::FrameSetting;
-use frame_state::{TileColumn, TilePlaces};
 use residue_syntax::TileSides;
+use seq_decoder::frame_state::{TileColumn, TilePlaces};
 use std::alloc::{AllocError, Global};
 
 /// A tile column with the blocks of the `k`-th one, behind the frame's last tile. It has no room for more.

@@ -16,4 +16,5 @@ pub use columns::{PlannedColumn, PlannedColumns, plan_column};
 pub use keeping::keep;
 pub use kept::Kept;
 pub use needs::shapes_by;
+pub use recon_rows::tile_syntax;
 pub use strips::{PlannedRow, put_strip};

@@ -6,13 +6,13 @@ ghost use Rattle.vp9_types.specs.Sizes.{superblocks_along};
 ghost use Rattle.frame_headers.specs.FrameSizes.{IsFrameSize};
 ghost use Rattle.frame_headers.specs.HeaderState.{shape_of};
 ghost use Rattle.band_needs.specs.Code.{CanBePlaced};
-ghost use Rattle.tile_syntax.specs.Code.{IsKept};
+ghost use Rattle.recon_rows.specs.tile_syntax.Code.{IsKept};
 ghost use Rattle.frame_steps.specs.StepResults.{AreRowNeeds, row_needs_of, shapes_by};
 
 use band_needs::{BandNeeds, ReferenceShapes, needs};
 use frame_headers::{FrameKind, Header};
+use recon_rows::tile_syntax::ColumnPlan;
 use std::alloc::{AllocError, Global};
-use tile_syntax::ColumnPlan;
 
 /// The shapes of the pictures that a frame may refer to.
 pub fn shapes_by(header: &Header) -> ReferenceShapes

@@ -9,18 +9,18 @@ ghost use Rattle.frame_headers.specs.Spans.{tile_count};
 ghost use Rattle.frame_headers.specs.HeaderState.{shape_of};
 ghost use Rattle.frame_headers.specs.Tiles.{AreFewTiles};
 ghost use Rattle.block_rebuild.specs.Code.{AreServed, rebuilding_of};
-ghost use Rattle.frame_state.specs.KeptColumns.{IsTileColumn};
-ghost use Rattle.tile_syntax.specs.Code.{IsKept};
+ghost use Rattle.seq_decoder.specs.frame_state.KeptColumns.{IsTileColumn};
+ghost use Rattle.recon_rows.specs.tile_syntax.Code.{IsKept};
 ghost use Rattle.recon_rows.specs.RebuiltRows.{blocks_between};
 ghost use Rattle.recon_rows.specs.OwnStrips.{HoldsRowOf, IsAbove, IsReadPlan};
 
 use block_rebuild::{Rebuilding, RoomSample};
 use frame_setting::FrameSetting;
-use frame_state::{TilePlaces, superblocks};
 use planes::FramePlanes;
+use recon_rows::tile_syntax::ColumnPlan;
 use recon_rows::{new_strip, rows};
+use seq_decoder::frame_state::{TilePlaces, superblocks};
 use std::alloc::{AllocError, Global};
-use tile_syntax::ColumnPlan;
 use vp9_types::Samples;
 
 /// A row of superblocks of a tile column of a frame, and the column's plan.

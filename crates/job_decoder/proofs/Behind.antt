@@ -8,11 +8,11 @@ use Rattle.vp9_types.specs.declared.outcome.Outcome.TheVariants as outcome
 use Rattle.vp9_types.specs.declared.job.JobName.TheVariants.{Head}
 use Rattle.frame_output.specs.declared.rendering.Format.{Format}
 use Rattle.job_crew.specs.Runs.{IsDue}
-use Rattle.seq_decoder.specs.Outcomes.{Decodes}
-use Rattle.seq_decoder.specs.Outputs.{form_from}
-use Rattle.numbered_frames.specs.Films.{Film, GoesOn}
-use Rattle.numbered_frames.specs.FrameNumbers.{film_output}
-use Rattle.job_results.specs.Meaning.{decode_rules, decode_truth}
+use Rattle.job_rows.specs.seq_decoder.Outcomes.{Decodes}
+use Rattle.job_rows.specs.seq_decoder.Outputs.{form_from}
+use Rattle.job_rows.specs.numbered_frames.Films.{Film, GoesOn}
+use Rattle.job_rows.specs.numbered_frames.FrameNumbers.{film_output}
+use Rattle.job_rows.specs.job_results.Meaning.{decode_rules, decode_truth}
 use Rattle.job_decoder.specs.declared.past.Past.{Past}
 use Rattle.job_decoder.specs.Code.{HasRun}
 use Rattle.job_decoder.specs.SinkOutputs.{is_done}

@@ -8,24 +8,24 @@ use Rattle.job_order.specs.Truths.{IsFront}
 use Rattle.job_crew.specs.declared.outlet.Ending.{Ending}
 use Rattle.job_crew.specs.declared.outlet.Ending.TheVariants.{Whole, Refused}
 use Rattle.vp9_types.specs.declared.outcome.Outcome.{Outcome}
-use Rattle.seq_decoder.specs.Outcomes.{Decodes}
-use Rattle.seq_decoder.specs.Outputs.{output_of}
+use Rattle.job_rows.specs.seq_decoder.Outcomes.{Decodes}
+use Rattle.job_rows.specs.seq_decoder.Outputs.{output_of}
 use Rattle.vp9_types.specs.declared.rule.Rule.{Rule}
 use Rattle.file_frames.specs.Walks.{Walked}
-use Rattle.numbered_frames.specs.FrameNumbers.{film_output, text}
-use Rattle.numbered_frames.proofs.Ways.{files_are_films}
+use Rattle.job_rows.specs.numbered_frames.FrameNumbers.{film_output, text}
+use Rattle.job_rows.proofs.of_numbered_frames.Ways.{files_are_films}
 use Rattle.vp9_types.specs.declared.job.JobName.TheVariants.{End, Write}
-use Rattle.job_results.proofs.Decoding.{decodes}
-use Rattle.job_results.proofs.GroupDue.{due_in_film}
-use Rattle.job_results.specs.Groups.{group_rules, group_truth}
-use Rattle.job_results.specs.Endings.{HasRefused, IsOutcome}
-use Rattle.job_results.specs.Meaning.{decode_rules, decode_truth, fails}
-use Rattle.job_results.specs.declared.result.JobResult.{JobResult}
-use Rattle.job_results.specs.declared.result.JobResult.TheVariants as result
-use Rattle.job_results.specs.JobResults.{IsEndResult, IsRight}
+use Rattle.job_rows.proofs.of_job_results.Decoding.{decodes}
+use Rattle.job_rows.proofs.of_job_results.GroupDue.{due_in_film}
+use Rattle.job_rows.specs.job_results.Groups.{group_rules, group_truth}
+use Rattle.job_rows.specs.job_results.Endings.{HasRefused, IsOutcome}
+use Rattle.job_rows.specs.job_results.Meaning.{decode_rules, decode_truth, fails}
+use Rattle.job_rows.specs.job_results.declared.result.JobResult.{JobResult}
+use Rattle.job_rows.specs.job_results.declared.result.JobResult.TheVariants as result
+use Rattle.job_rows.specs.job_results.JobResults.{IsEndResult, IsRight}
 use Rattle.job_decoder.proofs.Groups.{same_texts}
 use Rattle.job_decoder.specs.SinkOutputs.{HasRefusedSo, IsQuiet, TellsOutcome}
-use Rattle.numbered_frames.specs.Films.{Film, film_of}
+use Rattle.job_rows.specs.numbered_frames.Films.{Film, film_of}
 
 pub end_tells : (format : Format) (film : Film) (f : ℕ) (x : JobResult) → IsEndResult format film f x → TellsOutcome (Whole f x)
 end_tells format film f (result.Ended o) is = tt

@@ -19,19 +19,19 @@ use Rattle.job_order.specs.Truths.{IsFront}
 use Rattle.job_crew.specs.Runs.{IsEnded}
 use Rattle.job_crew.specs.declared.outlet.Ending.{Ending}
 use Rattle.job_crew.specs.declared.outlet.Ending.TheVariants.{Whole, Refused}
-use Rattle.seq_decoder.specs.Code.{refusal_outcome}
-use Rattle.seq_decoder.specs.Outcomes.{WritesFront}
-use Rattle.seq_decoder.specs.Outputs.{Putting}
-use Rattle.numbered_frames.specs.Films.{Film, GoesOn}
-use Rattle.numbered_frames.specs.FrameNumbers.{EndsAt, before, file_ending, film_output, frame_at, text, text_from}
-use Rattle.numbered_frames.proofs.LaterFrames.{before_same, frame_same, text_same}
-use Rattle.numbered_frames.proofs.Ways.{ends, front, passed}
-use Rattle.job_results.specs.Endings.{HasRefused, IsOutcome}
-use Rattle.job_results.specs.Groups.{group_rules, group_truth}
-use Rattle.job_results.specs.JobResults.{IsEnd, outcome_of}
-use Rattle.job_results.specs.declared.result.JobResult.{JobResult}
-use Rattle.job_results.specs.declared.result.JobResult.TheVariants as result
-use Rattle.job_results.proofs.GroupDue.{texts_behind}
+use Rattle.job_rows.specs.seq_decoder.Code.{refusal_outcome}
+use Rattle.job_rows.specs.seq_decoder.Outcomes.{WritesFront}
+use Rattle.job_rows.specs.seq_decoder.Outputs.{Putting}
+use Rattle.job_rows.specs.numbered_frames.Films.{Film, GoesOn}
+use Rattle.job_rows.specs.numbered_frames.FrameNumbers.{EndsAt, before, file_ending, film_output, frame_at, text, text_from}
+use Rattle.job_rows.proofs.of_numbered_frames.LaterFrames.{before_same, frame_same, text_same}
+use Rattle.job_rows.proofs.of_numbered_frames.Ways.{ends, front, passed}
+use Rattle.job_rows.specs.job_results.Endings.{HasRefused, IsOutcome}
+use Rattle.job_rows.specs.job_results.Groups.{group_rules, group_truth}
+use Rattle.job_rows.specs.job_results.JobResults.{IsEnd, outcome_of}
+use Rattle.job_rows.specs.job_results.declared.result.JobResult.{JobResult}
+use Rattle.job_rows.specs.job_results.declared.result.JobResult.TheVariants as result
+use Rattle.job_rows.proofs.of_job_results.GroupDue.{texts_behind}
 use Rattle.job_decoder.specs.Code.{HasRun, Stops}
 
 ---- Frames that are there ----

@@ -6,12 +6,12 @@ use Rattle.job_crew.specs.Runs.{IsEnded}
 use Rattle.job_crew.specs.declared.outlet.Ending.{Ending}
 use Rattle.job_crew.specs.declared.outlet.Ending.TheVariants.{Whole, Refused}
 use Rattle.vp9_types.specs.declared.outcome.Outcome.{Outcome}
-use Rattle.numbered_frames.specs.Films.{Film}
+use Rattle.job_rows.specs.numbered_frames.Films.{Film}
 use Rattle.std.specs.Prelude.{None}
 use Rattle.std.proofs.Common.{◌+◌, subst}
-use Rattle.job_results.specs.Endings.{HasRefused, IsOutcome}
-use Rattle.job_results.specs.Groups.{group_rules, group_truth}
-use Rattle.job_results.specs.declared.result.JobResult.{JobResult}
+use Rattle.job_rows.specs.job_results.Endings.{HasRefused, IsOutcome}
+use Rattle.job_rows.specs.job_results.Groups.{group_rules, group_truth}
+use Rattle.job_rows.specs.job_results.declared.result.JobResult.{JobResult}
 use Rattle.job_decoder.specs.Code.{HasRun}
 use Rattle.job_decoder.specs.SinkOutputs.{HasRefusedSo, IsQuiet, TellsOutcome}
 use Rattle.job_decoder.proofs.Ends.{end_tells, refusal_tells}

@@ -6,13 +6,13 @@ use Rattle.vp9_types.specs.declared.job.JobName.TheVariants.{Head, Column, Close
 use Rattle.frame_output.specs.declared.rendering.Format.{Format}
 use Rattle.job_crew.specs.Runs.{GoesOn, IsDue}
 use Rattle.job_order.specs.Sound.{frame_of, texts_below}
-use Rattle.job_results.proofs.GroupDue.{counted_below, due_counted, due_in_film}
-use Rattle.job_results.specs.Groups.{IsNoEnd, builds_in, group_rules, group_truth, in_film}
-use Rattle.job_results.specs.Meaning.{builds, decode_rules, decode_truth, shown_as}
-use Rattle.job_results.specs.declared.result.JobResult.{JobResult}
-use Rattle.job_results.specs.declared.result.JobResult.TheVariants as result
+use Rattle.job_rows.proofs.of_job_results.GroupDue.{counted_below, due_counted, due_in_film}
+use Rattle.job_rows.specs.job_results.Groups.{IsNoEnd, builds_in, group_rules, group_truth, in_film}
+use Rattle.job_rows.specs.job_results.Meaning.{builds, decode_rules, decode_truth, shown_as}
+use Rattle.job_rows.specs.job_results.declared.result.JobResult.{JobResult}
+use Rattle.job_rows.specs.job_results.declared.result.JobResult.TheVariants as result
 use Rattle.job_order.specs.Worlds.{Building}
-use Rattle.numbered_frames.specs.Films.{Film}
+use Rattle.job_rows.specs.numbered_frames.Films.{Film}
 
 -- the number in the film is within bounds
 pub fits_in_film : (n own : ℕ) (format : Format) (film : Film) (job : JobName) → own ≡ n → length film.frames < 2 ^ 64 → IsDue (decode_rules format film) (decode_truth format film) (Head n)

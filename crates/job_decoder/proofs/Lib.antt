@@ -8,3 +8,5 @@ pub mod PastFrames
 pub mod Reaching
 pub mod RowsTaken
 pub mod Behind
+pub use Rattle.job_rows.proofs.of_numbered_frames as of_numbered_frames
+pub use Rattle.job_rows.proofs.of_seq_decoder as of_seq_decoder

@@ -7,13 +7,13 @@ use Rattle.frame_output.specs.declared.rendering.Format.{Format}
 use Rattle.job_crew.specs.Left.{HasRightResults}
 use Rattle.job_crew.specs.Runs.{IsDue}
 use Rattle.job_crew.specs.declared.left.FrameResults.{FrameResults}
-use Rattle.numbered_frames.specs.Films.{Film, GoesOn}
-use Rattle.numbered_frames.specs.FrameNumbers.{EndsAt, before, start}
-use Rattle.job_results.specs.Groups.{group_truth}
-use Rattle.job_results.specs.Meaning.{decode_rules, decode_truth}
-use Rattle.job_results.specs.JobResults.{IsRight}
-use Rattle.job_results.specs.declared.result.JobResult.{JobResult}
-use Rattle.job_results.proofs.Later.{right_still}
+use Rattle.job_rows.specs.numbered_frames.Films.{Film, GoesOn}
+use Rattle.job_rows.specs.numbered_frames.FrameNumbers.{EndsAt, before, start}
+use Rattle.job_rows.specs.job_results.Groups.{group_truth}
+use Rattle.job_rows.specs.job_results.Meaning.{decode_rules, decode_truth}
+use Rattle.job_rows.specs.job_results.JobResults.{IsRight}
+use Rattle.job_rows.specs.job_results.declared.result.JobResult.{JobResult}
+use Rattle.job_rows.proofs.of_job_results.Later.{right_still}
 use Rattle.job_decoder.specs.declared.past.Past.{Past}
 use Rattle.job_decoder.specs.Code.{renumbered}
 use Rattle.job_decoder.specs.Pasts.{IsKept, IsPast, film_with, frames_behind, frames_by, numbers_of, with_byte}

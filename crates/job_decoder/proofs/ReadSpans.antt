@@ -6,14 +6,14 @@ use Rattle.vp9_types.specs.declared.job.JobName.TheVariants.{Rows}
 use Rattle.frame_output.specs.declared.rendering.Format.{Format}
 use Rattle.job_crew.specs.Runs.{IsDue}
 use Rattle.job_order.specs.Needs.{HasBand}
-use Rattle.numbered_frames.specs.Coded.{CodedFrame, coded}
-use Rattle.numbered_frames.specs.Films.{Film}
-use Rattle.job_results.specs.Groups.{span_in, spans_in}
-use Rattle.job_results.specs.JobResults.{IsBuiltAs, IsClosedAs}
-use Rattle.job_results.specs.Meaning.{decode_rules, decode_truth}
-use Rattle.job_results.specs.RowReads.{kept_spans, reads_from, row_reads}
-use Rattle.job_results.specs.declared.result.ClosedFrame.{ClosedFrame}
-use Rattle.job_results.proofs.KeptSpans.{three_spans}
+use Rattle.job_rows.specs.numbered_frames.Coded.{CodedFrame, coded}
+use Rattle.job_rows.specs.numbered_frames.Films.{Film}
+use Rattle.job_rows.specs.job_results.Groups.{span_in, spans_in}
+use Rattle.job_rows.specs.job_results.JobResults.{IsBuiltAs, IsClosedAs}
+use Rattle.job_rows.specs.job_results.Meaning.{decode_rules, decode_truth}
+use Rattle.job_rows.specs.job_results.RowReads.{kept_spans, reads_from, row_reads}
+use Rattle.job_rows.specs.job_results.declared.result.ClosedFrame.{ClosedFrame}
+use Rattle.job_rows.proofs.of_job_results.KeptSpans.{three_spans}
 use Rattle.job_rows.proofs.DueRows.{rows_due}
 
 -- a row that is due has them in the close of its frame

@@ -15,20 +15,20 @@ use Rattle.frame_headers.specs.HeaderState.{shape_of}
 use Rattle.frame_output.specs.Formats.{output_text}
 use Rattle.frame_output.specs.declared.rendering.Format.{Format}
 use Rattle.frame_output.specs.declared.rendering.Rendering.{Rendering}
-use Rattle.frame_state.specs.FrameReading.{FrameRead}
+use Rattle.job_rows.specs.frame_state.FrameReading.{FrameRead}
 use Rattle.job_order.specs.Truths.{IsFront}
-use Rattle.numbered_frames.specs.Coded.{CodedFrame, coded, read_of}
-use Rattle.numbered_frames.specs.NumberedPictures.{picture_from, picture_read, pictures}
-use Rattle.seq_decoder.specs.Code.{Shows}
-use Rattle.seq_decoder.specs.Outputs.{is_first}
-use Rattle.seq_decoder.specs.declared.form.OutputForm.{OutputForm}
-use Rattle.filtered_rows.specs.Code.{map_in, rows_from}
-use Rattle.filtered_rows.specs.BufferRows.{RowSpan}
+use Rattle.job_rows.specs.numbered_frames.Coded.{CodedFrame, coded, read_of}
+use Rattle.job_rows.specs.numbered_frames.NumberedPictures.{picture_from, picture_read, pictures}
+use Rattle.job_rows.specs.seq_decoder.Code.{Shows}
+use Rattle.job_rows.specs.seq_decoder.Outputs.{is_first}
+use Rattle.job_rows.specs.seq_decoder.declared.form.OutputForm.{OutputForm}
+use Rattle.job_rows.specs.filtered_rows.Code.{map_in, rows_from}
+use Rattle.job_rows.specs.filtered_rows.BufferRows.{RowSpan}
 use Rattle.edge_io.proofs.Fronts.{takes_none}
-use Rattle.picture_range.proofs.Ranges.{picture_small}
-use Rattle.seq_decoder.proofs.ShowingLemmas.{small_at}
-use Rattle.job_results.specs.JobResults.{IsReadFrame}
-use Rattle.numbered_frames.specs.Films.{Film}
+use Rattle.job_rows.proofs.of_picture_range.Ranges.{picture_small}
+use Rattle.job_rows.proofs.of_seq_decoder.ShowingLemmas.{small_at}
+use Rattle.job_rows.specs.job_results.JobResults.{IsReadFrame}
+use Rattle.job_rows.specs.numbered_frames.Films.{Film}
 
 ---- The frame that is shown ----
 

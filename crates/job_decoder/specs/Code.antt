@@ -6,14 +6,14 @@ use Rattle.vp9_types.specs.declared.outcome.Outcome.TheVariants as outcome
 use Rattle.frame_output.specs.declared.rendering.Format.{Format}
 use Rattle.job_crew.specs.declared.left.FrameResults.{FrameResults}
 use Rattle.job_order.specs.Sound.{texts_below}
-use Rattle.seq_decoder.specs.Outcomes.{Decodes}
-use Rattle.numbered_frames.specs.Films.{Film, GoesOn}
-use Rattle.numbered_frames.specs.FrameNumbers.{EndsAt, film_output, text}
+use Rattle.job_rows.specs.seq_decoder.Outcomes.{Decodes}
+use Rattle.job_rows.specs.numbered_frames.Films.{Film, GoesOn}
+use Rattle.job_rows.specs.numbered_frames.FrameNumbers.{EndsAt, film_output, text}
 use Rattle.job_crew.specs.Events.{HasEvents}
 use Rattle.job_crew.specs.declared.outlet.Ending.{Ending}
-use Rattle.job_results.specs.Endings.{IsOutcome}
-use Rattle.job_results.specs.Groups.{group_rules}
-use Rattle.job_results.specs.declared.result.JobResult.{JobResult}
+use Rattle.job_rows.specs.job_results.Endings.{IsOutcome}
+use Rattle.job_rows.specs.job_results.Groups.{group_rules}
+use Rattle.job_rows.specs.job_results.declared.result.JobResult.{JobResult}
 
 -- how many frames are at work at once, as asked for: from 2 to 16
 abbrev pub frames_at_once : ℕ → ℕ

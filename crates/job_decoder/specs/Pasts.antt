@@ -5,10 +5,10 @@ use Rattle.frame_output.specs.declared.rendering.Format.{Format}
 use Rattle.job_crew.specs.Left.{HasRightResults}
 use Rattle.job_crew.specs.Runs.{IsDue}
 use Rattle.job_crew.specs.declared.left.FrameResults.{FrameResults}
-use Rattle.numbered_frames.specs.Films.{Film}
-use Rattle.numbered_frames.specs.FrameNumbers.{EndsAt}
-use Rattle.job_results.specs.Meaning.{decode_rules, decode_truth}
-use Rattle.job_results.specs.declared.result.JobResult.{JobResult}
+use Rattle.job_rows.specs.numbered_frames.Films.{Film}
+use Rattle.job_rows.specs.numbered_frames.FrameNumbers.{EndsAt}
+use Rattle.job_rows.specs.job_results.Meaning.{decode_rules, decode_truth}
+use Rattle.job_rows.specs.job_results.declared.result.JobResult.{JobResult}
 use Rattle.job_decoder.specs.declared.past.Past.{Past}
 
 ---- Frames as numbers ----

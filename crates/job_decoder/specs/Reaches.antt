@@ -5,9 +5,9 @@ use Rattle.vp9_types.specs.declared.outcome.Outcome.{Outcome}
 use Rattle.vp9_types.specs.declared.outcome.Outcome.TheVariants as outcome
 use Rattle.frame_output.specs.declared.rendering.Format.{Format}
 use Rattle.job_order.specs.Sound.{texts_below}
-use Rattle.seq_decoder.specs.Outcomes.{Decodes}
-use Rattle.numbered_frames.specs.Films.{Film, GoesOn}
-use Rattle.numbered_frames.specs.FrameNumbers.{film_output, text}
+use Rattle.job_rows.specs.seq_decoder.Outcomes.{Decodes}
+use Rattle.job_rows.specs.numbered_frames.Films.{Film, GoesOn}
+use Rattle.job_rows.specs.numbered_frames.FrameNumbers.{film_output, text}
 use Rattle.job_decoder.specs.declared.group.Reached.{Reached}
 use Rattle.job_decoder.specs.declared.group.Reached.TheVariants.{Further, Ended}
 use Rattle.job_decoder.specs.declared.past.Past.{Past}

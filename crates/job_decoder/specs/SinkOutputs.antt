@@ -4,9 +4,9 @@ use Rattle.vp9_types.specs.declared.outcome.Outcome.{Outcome}
 use Rattle.vp9_types.specs.declared.outcome.Outcome.TheVariants as outcome
 use Rattle.job_crew.specs.declared.outlet.Ending.{Ending}
 use Rattle.job_crew.specs.declared.outlet.Ending.TheVariants.{Whole, Refused}
-use Rattle.job_results.specs.Endings.{HasRefused}
-use Rattle.job_results.specs.declared.result.JobResult.{JobResult}
-use Rattle.job_results.specs.declared.result.JobResult.TheVariants as result
+use Rattle.job_rows.specs.job_results.Endings.{HasRefused}
+use Rattle.job_rows.specs.job_results.declared.result.JobResult.{JobResult}
+use Rattle.job_rows.specs.job_results.declared.result.JobResult.TheVariants as result
 
 -- it may be put to, its count of faults is that of the beginning, and it grows or doesn't as it did
 abbrev pub IsQuiet : Type 0 → ℕ → ℕ → Bool → Bool → Type 0

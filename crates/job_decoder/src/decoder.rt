@@ -5,9 +5,9 @@ ghost use Rattle.vp9_types.specs.declared.job.JobName.TheVariants.{Head, Rows};
 ghost use Rattle.job_order.specs.Sound.{frame_of};
 ghost use Rattle.job_crew.specs.Left.{HasRightResults};
 ghost use Rattle.job_crew.specs.Runs.{IsDue, IsNoWrite};
-ghost use Rattle.job_results.specs.Groups.{IsNoEnd, in_film, group_rules, group_truth, shown_in, span_in};
-ghost use Rattle.job_results.specs.Meaning.{decode_rules, decode_truth};
-ghost use Rattle.job_results.specs.JobResults.{IsRight};
+ghost use Rattle.job_rows.specs.job_results.Groups.{IsNoEnd, in_film, group_rules, group_truth, shown_in, span_in};
+ghost use Rattle.job_rows.specs.job_results.Meaning.{decode_rules, decode_truth};
+ghost use Rattle.job_rows.specs.job_results.JobResults.{IsRight};
 
 use crate::kept_frames::{KeptFrames, Shared, Slots};
 use crate::lookup::{FilmResults, in_film};
@@ -17,7 +17,7 @@ use edge_io::Sink;
 use job_crew::{Building, FrameResults, Jobs, LIVE, LastResult, Layout, Results};
 use job_heads::{FrameList, do_close, do_column, do_head};
 use job_order::Shown;
-use job_results::{ClosedFrame, Decode, DecodeRun, Group, JobResult, closed, ended};
+use job_rows::job_results::{ClosedFrame, Decode, DecodeRun, Group, JobResult, closed, ended};
 use job_rows::{do_filter, do_rows};
 use std::alloc::{AllocError, Global};
 use std::marker::Model;
@@ -37,7 +37,7 @@ impl<'j, 'a, B: DecodeRun, T> Model for JobDecoder<'j, 'a, B, T> {
     ghost use Rattle.std.specs.Prelude.{ℕ};
     ghost use Rattle.vp9_types.specs.declared.job.JobName.TheVariants.{Head};
     ghost use Rattle.job_crew.specs.Runs.{IsDue};
-    ghost use Rattle.job_results.specs.Meaning.{decode_rules, decode_truth};
+    ghost use Rattle.job_rows.specs.job_results.Meaning.{decode_rules, decode_truth};
 
     ghost Value = { ℕ };
 

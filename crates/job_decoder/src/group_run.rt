@@ -3,8 +3,8 @@
 ghost use Rattle.std.specs.Prelude.{◌≡◌, ◌≤◌, ◌<◌, All, None, IfSome, length};
 ghost use Rattle.vp9_types.specs.declared.job.JobName.TheVariants.{Head};
 ghost use Rattle.job_crew.specs.Runs.{IsDue};
-ghost use Rattle.job_results.specs.Endings.{IsOutcome};
-ghost use Rattle.job_results.specs.Meaning.{decode_rules, decode_truth};
+ghost use Rattle.job_rows.specs.job_results.Endings.{IsOutcome};
+ghost use Rattle.job_rows.specs.job_results.Meaning.{decode_rules, decode_truth};
 ghost use Rattle.job_decoder.specs.Code.{HasRun, TellsEvents, frames_at_once};
 ghost use Rattle.job_decoder.specs.SinkOutputs.{TellsOutcome};
 ghost use Rattle.job_decoder.specs.Pasts.{IsKept};
@@ -16,7 +16,7 @@ use crate::whole::{Crew, frames_at_once, outcome_of};
 use edge_io::{Gate, Sink};
 use job_crew::{FrameResults, Ran, Run, run_jobs};
 use job_heads::FrameList;
-use job_results::{DecodeRun, Group, JobResult};
+use job_rows::job_results::{DecodeRun, Group, JobResult};
 use std::alloc::Global;
 use std::sync::Wait;
 use std::thread::Threads;
@@ -51,7 +51,7 @@ fn without_memory<K: Sink, B: DecodeRun>(output: DecodeSink<K, B>) -> GroupRan<K
 }
 
 /// Decodes the frames of a group by a crew.
-#[tactic(auto, using(job_results::proofs::TrueRules::group_can))]
+#[tactic(auto, using(job_rows::proofs::of_job_results::TrueRules::group_can))]
 pub(crate) fn run_group<
     'a,
     B: DecodeRun + Send + Sync,

@@ -4,14 +4,14 @@ ghost use Rattle.std.specs.Prelude.{◌≡◌, ◌+◌, ◌<◌, ◌≤◌, ◌�
 ghost use Rattle.vp9_types.specs.declared.job.JobName.TheVariants.{Head};
 ghost use Rattle.job_crew.specs.Left.{AreRightRows, HasRightResults};
 ghost use Rattle.job_crew.specs.Runs.{IsDue};
-ghost use Rattle.job_results.specs.Groups.{group_truth};
-ghost use Rattle.job_results.specs.Meaning.{decode_rules, decode_truth};
+ghost use Rattle.job_rows.specs.job_results.Groups.{group_truth};
+ghost use Rattle.job_rows.specs.job_results.Meaning.{decode_rules, decode_truth};
 ghost use Rattle.job_decoder.specs.Code.{renumbered};
 ghost use Rattle.job_decoder.specs.Pasts.{IsKept};
 
 use crate::kept_frames::{KeptFrames, Shared, Slots, is_named};
 use job_crew::FrameResults;
-use job_results::{DecodeRun, JobResult};
+use job_rows::job_results::{DecodeRun, JobResult};
 use std::alloc::{AllocError, Global};
 
 fn take_row<'a>(row: &mut Option<JobResult<'a>>) -> Option<JobResult<'a>>

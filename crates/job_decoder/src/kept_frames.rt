@@ -4,11 +4,11 @@ ghost use Rattle.std.specs.Prelude.{◌≡◌, All, IfSome, IfOk};
 ghost use Rattle.vp9_types.specs.declared.job.JobName.TheVariants.{Close, Filter};
 ghost use Rattle.job_crew.specs.Left.{HasRightResults};
 ghost use Rattle.job_crew.specs.Runs.{GoesOn};
-ghost use Rattle.job_results.specs.Meaning.{decode_rules, decode_truth};
-ghost use Rattle.job_results.specs.JobResults.{IsRight};
+ghost use Rattle.job_rows.specs.job_results.Meaning.{decode_rules, decode_truth};
+ghost use Rattle.job_rows.specs.job_results.JobResults.{IsRight};
 
 use job_crew::FrameResults;
-use job_results::{DecodeRun, JobResult};
+use job_rows::job_results::{DecodeRun, JobResult};
 use std::alloc::{AllocError, Global};
 use std::marker::{Model, PhantomData};
 use std::sync::Arc;
@@ -30,7 +30,7 @@ pub(crate) struct KeptFrame<'a, B: DecodeRun> {
 impl<'a, B: DecodeRun> Model for KeptFrame<'a, B> {
     ghost use Rattle.std.specs.Prelude.{ℕ};
     ghost use Rattle.job_crew.specs.Left.{HasRightResults};
-    ghost use Rattle.job_results.specs.Meaning.{decode_truth};
+    ghost use Rattle.job_rows.specs.job_results.Meaning.{decode_truth};
 
     ghost Value = { ℕ };
 

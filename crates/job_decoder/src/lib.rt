@@ -13,5 +13,6 @@ mod whole;
 mod writes;
 
 pub use group::{NextFrames, Reached, decode_group};
+pub use job_rows::seq_decoder;
 pub use past::Past;
 pub use whole::{Crew, Decoded, decode_by_jobs};

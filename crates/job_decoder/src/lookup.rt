@@ -3,13 +3,13 @@
 ghost use Rattle.std.specs.Prelude.{◌≡◌, ◌+◌, ◌<◌, ◌≤◌, ◌^◌, IfNone, IfSome};
 ghost use Rattle.job_order.specs.Sound.{frame_of};
 ghost use Rattle.job_crew.specs.Runs.{GoesOn};
-ghost use Rattle.job_results.specs.Groups.{in_film, numbered};
-ghost use Rattle.job_results.specs.Meaning.{decode_rules};
-ghost use Rattle.job_results.specs.JobResults.{IsRight};
+ghost use Rattle.job_rows.specs.job_results.Groups.{in_film, numbered};
+ghost use Rattle.job_rows.specs.job_results.Meaning.{decode_rules};
+ghost use Rattle.job_rows.specs.job_results.JobResults.{IsRight};
 
 use crate::kept_frames::{KeptFrames, Shared};
 use job_crew::{Results, frame_of};
-use job_results::{Decode, DecodeRun, Group, JobResult};
+use job_rows::job_results::{Decode, DecodeRun, Group, JobResult};
 use std::marker::Model;
 use std::sync::{Arc, Mutex, OnceLock, Wait};
 use std::thread;

@@ -2,7 +2,7 @@
 
 use edge_io::Sink;
 use job_crew::Output;
-use job_results::{DecodeRun, JobResult};
+use job_rows::job_results::{DecodeRun, JobResult};
 use std::alloc::Global;
 use std::marker::PhantomData;
 

@@ -6,7 +6,7 @@ ghost use Rattle.job_decoder.specs.Pasts.{IsPast, frames_behind};
 
 use boxcar::tag::{Names, Tag};
 use job_crew::FrameResults;
-use job_results::JobResult;
+use job_rows::job_results::JobResult;
 use std::alloc::Global;
 
 /// Frames that are decoded: how many they are, and those of their results that jobs of later frames ask for. Which frames they were is

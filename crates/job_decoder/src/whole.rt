@@ -1,10 +1,10 @@
 //! A whole decode by jobs.
 
 ghost use Rattle.std.specs.Prelude.{◌≡◌, ◌≤◌};
-ghost use Rattle.seq_decoder.specs.Outcomes.{Decodes};
-ghost use Rattle.numbered_frames.specs.Films.{film_of};
-ghost use Rattle.seq_decoder.specs.Outputs.{output_of};
-ghost use Rattle.job_results.specs.Endings.{IsOutcome};
+ghost use Rattle.job_rows.specs.seq_decoder.Outcomes.{Decodes};
+ghost use Rattle.job_rows.specs.numbered_frames.Films.{film_of};
+ghost use Rattle.job_rows.specs.seq_decoder.Outputs.{output_of};
+ghost use Rattle.job_rows.specs.job_results.Endings.{IsOutcome};
 ghost use Rattle.job_decoder.specs.Code.{TellsEvents, frames_at_once};
 ghost use Rattle.job_decoder.specs.SinkOutputs.{TellsOutcome};
 
@@ -16,8 +16,8 @@ use file_frames::rate_of_file;
 use frame_output::Format;
 use job_crew::{Ending, Ran, Run, run_jobs};
 use job_heads::{FrameList, find_frames};
-use job_results::{DecodeRun, Group, JobResult};
-use seq_decoder::{OutputForm, refusal_outcome};
+use job_rows::job_results::{DecodeRun, Group, JobResult};
+use job_rows::seq_decoder::{OutputForm, refusal_outcome};
 use std::alloc::Global;
 use std::marker::Brand;
 use std::sync::Wait;
@@ -85,7 +85,7 @@ fn without_memory<K: Sink, B: DecodeRun>(output: DecodeSink<K, B>) -> Decoded<K>
 }
 
 /// Decodes a file whose bytes, format and sink are named.
-#[tactic(auto, using(job_results::proofs::TrueRules::group_can))]
+#[tactic(auto, using(job_rows::proofs::of_job_results::TrueRules::group_can))]
 fn decode_as<
     B: DecodeRun + Send + Sync,
     K: Sink + Send + Drop,

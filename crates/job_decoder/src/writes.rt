@@ -2,19 +2,19 @@
 
 ghost use Rattle.std.specs.Prelude.{◌≡◌, Some};
 ghost use Rattle.frame_output.specs.Formats.{output_text};
-ghost use Rattle.numbered_frames.specs.FrameNumbers.{text};
-ghost use Rattle.numbered_frames.specs.NumberedPictures.{pictures};
-ghost use Rattle.seq_decoder.specs.Code.{Shows};
-ghost use Rattle.seq_decoder.specs.Outputs.{is_first};
-ghost use Rattle.job_results.specs.JobResults.{IsShown};
+ghost use Rattle.job_rows.specs.numbered_frames.FrameNumbers.{text};
+ghost use Rattle.job_rows.specs.numbered_frames.NumberedPictures.{pictures};
+ghost use Rattle.job_rows.specs.seq_decoder.Code.{Shows};
+ghost use Rattle.job_rows.specs.seq_decoder.Outputs.{is_first};
+ghost use Rattle.job_rows.specs.job_results.JobResults.{IsShown};
 
 use edge_io::{PutFault, Sink};
-use filtered_rows::FilteredFrame;
 use frame_output::render_as;
 use job_crew::Results;
-use job_results::{Decode, DecodeRun, JobResult, ShownFrame, closed};
+use job_rows::filtered_rows::FilteredFrame;
+use job_rows::job_results::{Decode, DecodeRun, JobResult, ShownFrame, closed};
+use job_rows::seq_decoder::{LEAST_BUFFER, OutputForm, lengthen};
 use job_rows::{PlaneSample, rows_of};
-use seq_decoder::{LEAST_BUFFER, OutputForm, lengthen};
 use std::alloc::Global;
 use vp9_types::{Depth, Sample};
 

@@ -13,27 +13,27 @@ use Rattle.frame_headers.specs.declared.header.Header.{Header}
 use Rattle.frame_headers.specs.declared.persist.Persist.{Persist}
 use Rattle.frame_output.specs.declared.rendering.Format.{Format}
 use Rattle.frame_output.specs.Formats.{output_text}
-use Rattle.frame_decoder.specs.DecodedFrames.{FrameResult}
-use Rattle.frame_decoder.specs.declared.decoding.Decoded.{Decoded}
-use Rattle.frame_state.specs.FrameReading.{FrameRead, read_all_tiles}
-use Rattle.frame_state.specs.Sources.{FrameSources}
-use Rattle.frame_state.specs.declared.halt.Halt.{Halt}
-use Rattle.frame_state.specs.declared.halt.Halt.TheVariants as halt
-use Rattle.frame_steps.specs.StepResults.{BeginsIn, GivesDecoded, IsDecoded, Leaves, sources_by}
-use Rattle.frame_steps.specs.Kept.{MayFollow, StandsFor, number_in}
-use Rattle.frame_steps.specs.declared.beginning.BegunFrame.{BegunFrame}
-use Rattle.frame_steps.specs.declared.kept.Kept.{Kept}
-use Rattle.seq_decoder.specs.After.{Stepped, after_coded, picture_of, shown_picture, state_after, step}
-use Rattle.seq_decoder.specs.Code.{halt_outcome}
-use Rattle.seq_decoder.specs.Outcomes.{outcome_at}
-use Rattle.seq_decoder.specs.Outputs.{Putting, admits, form_after, is_first, put, shown_text}
-use Rattle.seq_decoder.specs.DecoderState.{Picture, State, persist_of, shape_in_slot}
-use Rattle.seq_decoder.specs.declared.form.OutputForm.{OutputForm}
-use Rattle.numbered_frames.specs.Coded.{CodedFrame, IsFrameBefore, coded, read_of, result_of}
-use Rattle.numbered_frames.specs.FrameNumbers.{before, frame_at}
-use Rattle.numbered_frames.specs.NumberedPictures.{pictures}
-use Rattle.numbered_frames.proofs.SlotFrames.{slots_hold}
-use Rattle.numbered_frames.proofs.Ways.{text_is}
+use Rattle.job_results.specs.frame_decoder.DecodedFrames.{FrameResult}
+use Rattle.job_results.specs.frame_decoder.declared.decoding.Decoded.{Decoded}
+use Rattle.job_results.specs.frame_state.FrameReading.{FrameRead, read_all_tiles}
+use Rattle.job_results.specs.frame_state.Sources.{FrameSources}
+use Rattle.job_results.specs.frame_state.declared.halt.Halt.{Halt}
+use Rattle.job_results.specs.frame_state.declared.halt.Halt.TheVariants as halt
+use Rattle.job_results.specs.frame_steps.StepResults.{BeginsIn, GivesDecoded, IsDecoded, Leaves, sources_by}
+use Rattle.job_results.specs.frame_steps.Kept.{MayFollow, StandsFor, number_in}
+use Rattle.job_results.specs.frame_steps.declared.beginning.BegunFrame.{BegunFrame}
+use Rattle.job_results.specs.frame_steps.declared.kept.Kept.{Kept}
+use Rattle.job_results.specs.seq_decoder.After.{Stepped, after_coded, picture_of, shown_picture, state_after, step}
+use Rattle.job_results.specs.seq_decoder.Code.{halt_outcome}
+use Rattle.job_results.specs.seq_decoder.Outcomes.{outcome_at}
+use Rattle.job_results.specs.seq_decoder.Outputs.{Putting, admits, form_after, is_first, put, shown_text}
+use Rattle.job_results.specs.seq_decoder.DecoderState.{Picture, State, persist_of, shape_in_slot}
+use Rattle.job_results.specs.seq_decoder.declared.form.OutputForm.{OutputForm}
+use Rattle.job_results.specs.numbered_frames.Coded.{CodedFrame, IsFrameBefore, coded, read_of, result_of}
+use Rattle.job_results.specs.numbered_frames.FrameNumbers.{before, frame_at}
+use Rattle.job_results.specs.numbered_frames.NumberedPictures.{pictures}
+use Rattle.job_results.proofs.of_numbered_frames.SlotFrames.{slots_hold}
+use Rattle.job_results.proofs.of_numbered_frames.Ways.{text_is}
 use Rattle.job_results.specs.Lent.{IsBegunFrame, IsKeptBefore}
 use Rattle.job_results.specs.Slots.{slots_of}
 use Rattle.job_results.proofs.SlotLists.{slot_in}
@@ -48,7 +48,7 @@ use Rattle.job_heads.specs.Shows.{IsClosing, admits_it, closed_by, form_behind, 
 use Rattle.job_heads.proofs.CodedFrames.{decoded_to, is_from, not_coded, picture_there}
 use Rattle.job_heads.proofs.RowsRead.{has_reads}
 use Rattle.job_heads.proofs.HeadSteps.{added_by, ends_by, ends_in, head_coded, head_shown, kept_next, put_fits, put_unfit, shows_slot, starved}
-use Rattle.numbered_frames.specs.Films.{Film}
+use Rattle.job_results.specs.numbered_frames.Films.{Film}
 
 ---- What is shown ----
 

@@ -14,22 +14,22 @@ use Rattle.frame_headers.specs.declared.header.FrameHead.TheVariants as head
 use Rattle.frame_headers.specs.declared.header.Header.{Header}
 use Rattle.frame_output.specs.declared.rendering.Format.{Format}
 use Rattle.prob_contexts.specs.ProbLists.{ContextLists, lists_of}
-use Rattle.frame_decoder.specs.DecodedFrames.{FrameResult, decoded, rebuilt}
-use Rattle.frame_state.specs.FrameReading.{FrameInput, FrameRead, read_all_tiles, read_frame, sources}
-use Rattle.frame_state.specs.Sources.{FrameSources}
-use Rattle.frame_steps.specs.StepResults.{BeginsIn, IsSound}
-use Rattle.frame_steps.specs.declared.beginning.BegunFrame.{BegunFrame}
-use Rattle.frame_steps.specs.declared.kept.Kept.{Kept}
-use Rattle.seq_decoder.specs.After.{decoded_in, input_of}
-use Rattle.seq_decoder.specs.Outputs.{Putting}
-use Rattle.seq_decoder.specs.DecoderState.{persist_of}
-use Rattle.numbered_frames.specs.Coded.{CodedFrame, begun_from, coded, coded_from, headed_from, read_of, references, result_of}
-use Rattle.numbered_frames.specs.FrameNumbers.{before, frame_at}
-use Rattle.numbered_frames.specs.NumberedPictures.{picture_from, picture_read, pictures}
+use Rattle.job_results.specs.frame_decoder.DecodedFrames.{FrameResult, decoded, rebuilt}
+use Rattle.job_results.specs.frame_state.FrameReading.{FrameInput, FrameRead, read_all_tiles, read_frame, sources}
+use Rattle.job_results.specs.frame_state.Sources.{FrameSources}
+use Rattle.job_results.specs.frame_steps.StepResults.{BeginsIn, IsSound}
+use Rattle.job_results.specs.frame_steps.declared.beginning.BegunFrame.{BegunFrame}
+use Rattle.job_results.specs.frame_steps.declared.kept.Kept.{Kept}
+use Rattle.job_results.specs.seq_decoder.After.{decoded_in, input_of}
+use Rattle.job_results.specs.seq_decoder.Outputs.{Putting}
+use Rattle.job_results.specs.seq_decoder.DecoderState.{persist_of}
+use Rattle.job_results.specs.numbered_frames.Coded.{CodedFrame, begun_from, coded, coded_from, headed_from, read_of, references, result_of}
+use Rattle.job_results.specs.numbered_frames.FrameNumbers.{before, frame_at}
+use Rattle.job_results.specs.numbered_frames.NumberedPictures.{picture_from, picture_read, pictures}
 use Rattle.job_results.specs.Lent.{IsBegunFrame, IsKeptBefore}
 use Rattle.job_results.specs.JobResults.{IsBegunAs}
 use Rattle.job_heads.proofs.HeadSteps.{read_by}
-use Rattle.numbered_frames.specs.Films.{Film}
+use Rattle.job_results.specs.numbered_frames.Films.{Film}
 
 -- where it comes from
 pub record IsFrom (format : Format) (film : Film) (f : ℕ) (c : CodedFrame) : Type 0 where

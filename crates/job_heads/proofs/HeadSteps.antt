@@ -12,22 +12,22 @@ use Rattle.frame_headers.specs.declared.header.FrameHead.{FrameHead}
 use Rattle.frame_headers.specs.declared.header.FrameHead.TheVariants as head
 use Rattle.frame_headers.specs.declared.header.Header.{Header}
 use Rattle.frame_output.specs.declared.rendering.Format.{Format}
-use Rattle.frame_state.specs.declared.halt.Halt.{Halt}
-use Rattle.frame_state.specs.declared.halt.Halt.TheVariants as halt
-use Rattle.frame_steps.specs.StepResults.{GivesBegun}
-use Rattle.frame_steps.specs.Kept.{MayFollow, StandsFor}
-use Rattle.frame_steps.specs.declared.kept.Kept.{Kept}
-use Rattle.seq_decoder.specs.After.{Stepped, after_coded, behind_head, decoded_in, step}
-use Rattle.seq_decoder.specs.Code.{halt_outcome}
-use Rattle.seq_decoder.specs.Outcomes.{outcome_at}
-use Rattle.seq_decoder.specs.Outputs.{Putting, admits, form_after, form_from, put, shown_text}
-use Rattle.seq_decoder.specs.DecoderState.{State, persist_of, start_state}
-use Rattle.seq_decoder.specs.declared.form.OutputForm.{OutputForm}
-use Rattle.numbered_frames.specs.FrameNumbers.{EndsAt, before, kept_after, after_frame, file_ending, frame_at, put_frame, start}
+use Rattle.job_results.specs.frame_state.declared.halt.Halt.{Halt}
+use Rattle.job_results.specs.frame_state.declared.halt.Halt.TheVariants as halt
+use Rattle.job_results.specs.frame_steps.StepResults.{GivesBegun}
+use Rattle.job_results.specs.frame_steps.Kept.{MayFollow, StandsFor}
+use Rattle.job_results.specs.frame_steps.declared.kept.Kept.{Kept}
+use Rattle.job_results.specs.seq_decoder.After.{Stepped, after_coded, behind_head, decoded_in, step}
+use Rattle.job_results.specs.seq_decoder.Code.{halt_outcome}
+use Rattle.job_results.specs.seq_decoder.Outcomes.{outcome_at}
+use Rattle.job_results.specs.seq_decoder.Outputs.{Putting, admits, form_after, form_from, put, shown_text}
+use Rattle.job_results.specs.seq_decoder.DecoderState.{State, persist_of, start_state}
+use Rattle.job_results.specs.seq_decoder.declared.form.OutputForm.{OutputForm}
+use Rattle.job_results.specs.numbered_frames.FrameNumbers.{EndsAt, before, kept_after, after_frame, file_ending, frame_at, put_frame, start}
 use Rattle.job_results.specs.Lent.{IsKeptBefore}
 use Rattle.job_results.specs.JobResults.{IsClosedAs, IsEnd, ShowsSlot, outcome_of}
 use Rattle.job_results.specs.declared.result.ClosedFrame.{ClosedFrame}
-use Rattle.numbered_frames.specs.Films.{Film}
+use Rattle.job_results.specs.numbered_frames.Films.{Film}
 
 ---- A step, by what is read of the head ----
 

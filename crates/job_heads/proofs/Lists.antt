@@ -8,9 +8,9 @@ use Rattle.vp9_types.specs.declared.outcome.Outcome.TheVariants as outcome
 use Rattle.vp9_types.specs.declared.rule.Rule.{Rule}
 use Rattle.file_frames.specs.Code.{Ahead, all_ahead}
 use Rattle.file_frames.specs.FileFrames.{frames_in, frames_of_file}
-use Rattle.numbered_frames.specs.Films.{Film}
-use Rattle.numbered_frames.specs.FrameNumbers.{file_ending, frame_at}
-use Rattle.seq_decoder.specs.Outcomes.{outcome_at}
+use Rattle.job_results.specs.numbered_frames.Films.{Film}
+use Rattle.job_results.specs.numbered_frames.FrameNumbers.{file_ending, frame_at}
+use Rattle.job_results.specs.seq_decoder.Outcomes.{outcome_at}
 use Rattle.job_results.specs.JobResults.{outcome_of}
 use Rattle.job_heads.specs.FrameLists.{AreFrames}
 

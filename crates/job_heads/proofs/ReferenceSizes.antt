@@ -15,9 +15,9 @@ use Rattle.frame_headers.specs.declared.header.FrameKind.TheVariants.{Key, Intra
 use Rattle.frame_headers.specs.declared.header.Header.{Header}
 use Rattle.frame_headers.specs.declared.header.Reference.{Reference}
 use Rattle.frame_headers.specs.declared.persist.Persist.{Persist}
-use Rattle.frame_steps.specs.StepResults.{HaveSizes}
+use Rattle.job_results.specs.frame_steps.StepResults.{HaveSizes}
 use Rattle.inter_contexts.specs.BlockReferences.{reference_in}
-use Rattle.seq_decoder.proofs.HeaderReferences.{HoldsReference, references_held}
+use Rattle.job_results.proofs.of_seq_decoder.HeaderReferences.{HoldsReference, references_held}
 
 slot_sized : (slots : List (Option Shape)) (n : ℕ) (shape : Shape) → All (λ slot. IfSome slot HasFrameSize) slots → slice_index_or slots n None ≡ Some shape → HasFrameSize shape
 slot_sized [] n shape all is = absurd cc

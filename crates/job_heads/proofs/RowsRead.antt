@@ -15,25 +15,25 @@ use Rattle.band_needs.specs.Ranges.{no_needs}
 use Rattle.band_needs.specs.declared.ranges.BandNeeds.{BandNeeds}
 use Rattle.block_plan.specs.declared.block.BlockInfo.{BlockInfo}
 use Rattle.column_plan.proofs.Held.{infos_are}
-use Rattle.frame_close.specs.Code.{GivesColumn}
+use Rattle.job_results.specs.frame_close.Code.{GivesColumn}
 use Rattle.frame_headers.specs.Spans.{tile_spans}
 use Rattle.frame_headers.specs.HeaderState.{shape_of}
 use Rattle.frame_headers.specs.declared.header.FrameKind.{FrameKind}
 use Rattle.frame_headers.specs.declared.header.Header.{Header}
 use Rattle.frame_output.specs.declared.rendering.Format.{Format}
-use Rattle.frame_state.proofs.PlanReads.{reads_columns}
-use Rattle.frame_state.specs.ColumnPlans.{plan_of, tile_bytes}
-use Rattle.frame_state.specs.FrameReading.{infos}
-use Rattle.frame_state.specs.Sources.{adapts}
-use Rattle.frame_steps.specs.Kept.{number_in}
-use Rattle.frame_steps.specs.StepResults.{IsColumn, IsSound, counts_of, row_needs_of, sources_by}
-use Rattle.frame_steps.specs.declared.beginning.BegunFrame.{BegunFrame}
-use Rattle.frame_steps.specs.declared.columns.PlannedColumn.{PlannedColumn}
-use Rattle.frame_steps.specs.declared.kept.Kept.{Kept}
-use Rattle.tile_syntax.specs.declared.plans.Unplanned.{Unplanned}
-use Rattle.tile_syntax.specs.declared.plans.Unplanned.TheVariants as unplanned
-use Rattle.numbered_frames.specs.Coded.{CodedFrame, coded}
-use Rattle.numbered_frames.specs.Films.{Film}
+use Rattle.job_results.proofs.of_frame_state.PlanReads.{reads_columns}
+use Rattle.job_results.specs.frame_state.ColumnPlans.{plan_of, tile_bytes}
+use Rattle.job_results.specs.frame_state.FrameReading.{infos}
+use Rattle.job_results.specs.frame_state.Sources.{adapts}
+use Rattle.job_results.specs.frame_steps.Kept.{number_in}
+use Rattle.job_results.specs.frame_steps.StepResults.{IsColumn, IsSound, counts_of, row_needs_of, sources_by}
+use Rattle.job_results.specs.frame_steps.declared.beginning.BegunFrame.{BegunFrame}
+use Rattle.job_results.specs.frame_steps.declared.columns.PlannedColumn.{PlannedColumn}
+use Rattle.job_results.specs.frame_steps.declared.kept.Kept.{Kept}
+use Rattle.job_results.specs.tile_syntax.declared.plans.Unplanned.{Unplanned}
+use Rattle.job_results.specs.tile_syntax.declared.plans.Unplanned.TheVariants as unplanned
+use Rattle.job_results.specs.numbered_frames.Coded.{CodedFrame, coded}
+use Rattle.job_results.specs.numbered_frames.Films.{Film}
 use Rattle.job_results.specs.JobResults.{HasReads, IsPlannedAs}
 use Rattle.job_results.specs.Lent.{IsBegunFrame}
 use Rattle.job_results.specs.RowReads.{kept_spans, reads_from, row_in, row_reads, row_spans, spans_by}

@@ -7,14 +7,14 @@ use Rattle.vp9_types.specs.declared.rule.Rule.{Rule}
 use Rattle.frame_headers.specs.Spans.{tile_spans}
 use Rattle.frame_headers.specs.declared.header.Header.{Header}
 use Rattle.frame_output.specs.declared.rendering.Format.{Format}
-use Rattle.frame_steps.specs.StepResults.{IsColumn, IsPlanned, sources_by}
-use Rattle.frame_state.specs.ColumnPlans.{tile_bytes}
-use Rattle.frame_steps.specs.declared.beginning.BegunFrame.{BegunFrame}
-use Rattle.frame_steps.specs.declared.columns.PlannedColumn.{PlannedColumn}
+use Rattle.job_results.specs.frame_steps.StepResults.{IsColumn, IsPlanned, sources_by}
+use Rattle.job_results.specs.frame_state.ColumnPlans.{tile_bytes}
+use Rattle.job_results.specs.frame_steps.declared.beginning.BegunFrame.{BegunFrame}
+use Rattle.job_results.specs.frame_steps.declared.columns.PlannedColumn.{PlannedColumn}
 use Rattle.job_crew.specs.Runs.{IsDue}
-use Rattle.tile_syntax.specs.declared.plans.Unplanned.{Unplanned}
-use Rattle.numbered_frames.specs.Coded.{CodedFrame, coded}
-use Rattle.seq_decoder.specs.Outputs.{Putting}
+use Rattle.job_results.specs.tile_syntax.declared.plans.Unplanned.{Unplanned}
+use Rattle.job_results.specs.numbered_frames.Coded.{CodedFrame, coded}
+use Rattle.job_results.specs.seq_decoder.Outputs.{Putting}
 use Rattle.job_results.specs.Lent.{IsBegunFrame, IsColumnOf}
 use Rattle.job_results.specs.Meaning.{decode_rules, decode_truth, parses}
 use Rattle.job_results.specs.JobResults.{IsBegunAs, IsColumnAs, IsHead, IsPlannedAs}
@@ -22,7 +22,7 @@ use Rattle.job_results.specs.declared.result.JobResult.{JobResult}
 use Rattle.job_results.specs.declared.result.JobResult.TheVariants as result
 use Rattle.job_heads.specs.Begun.{IsItsBegun, IsMadeOf}
 use Rattle.job_heads.proofs.CodedFrames.{is_from, same_coded}
-use Rattle.numbered_frames.specs.Films.{Film}
+use Rattle.job_results.specs.numbered_frames.Films.{Film}
 
 -- the coded frame that has begun, by what has begun, its tiles lying there
 abbrev coded_of : Putting → BegunFrame → List Span → CodedFrame

@@ -1,10 +1,10 @@
 -- What has begun, by the coded frame that it is.
 use Rattle.std.specs.Prelude.{◌≡◌, ℕ, List, Some}
 use Rattle.frame_output.specs.declared.rendering.Format.{Format}
-use Rattle.frame_steps.specs.StepResults.{sources_by}
-use Rattle.frame_steps.specs.declared.beginning.BegunFrame.{BegunFrame}
-use Rattle.numbered_frames.specs.Coded.{CodedFrame, coded}
-use Rattle.numbered_frames.specs.Films.{Film}
+use Rattle.job_results.specs.frame_steps.StepResults.{sources_by}
+use Rattle.job_results.specs.frame_steps.declared.beginning.BegunFrame.{BegunFrame}
+use Rattle.job_results.specs.numbered_frames.Coded.{CodedFrame, coded}
+use Rattle.job_results.specs.numbered_frames.Films.{Film}
 
 -- what has begun has the coded frame's bytes and headers, and what its blocks are read by
 abbrev pub IsMadeOf : CodedFrame → BegunFrame → Type 0

@@ -2,10 +2,10 @@
 use Rattle.std.specs.Prelude.{◌≡◌, ◌<◌, ◌^◌, ℕ, List, get_or, length, map, Option, Ok, Vec}
 use Rattle.std.specs.declared.alloc.Global.{Global}
 use Rattle.vp9_types.specs.declared.job.BandSpan.{BandSpan}
-use Rattle.frame_state.specs.FrameReading.{FrameRead, read_all_tiles}
-use Rattle.frame_steps.specs.StepResults.{IsColumn, sources_by}
-use Rattle.frame_steps.specs.declared.beginning.BegunFrame.{BegunFrame}
-use Rattle.frame_steps.specs.declared.columns.PlannedColumn.{PlannedColumn}
+use Rattle.job_results.specs.frame_state.FrameReading.{FrameRead, read_all_tiles}
+use Rattle.job_results.specs.frame_steps.StepResults.{IsColumn, sources_by}
+use Rattle.job_results.specs.frame_steps.declared.beginning.BegunFrame.{BegunFrame}
+use Rattle.job_results.specs.frame_steps.declared.columns.PlannedColumn.{PlannedColumn}
 use Rattle.job_results.specs.RowReads.{spans_by}
 use Rattle.job_results.specs.declared.reads.RowReads.{RowReads}
 

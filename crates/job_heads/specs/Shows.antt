@@ -4,9 +4,9 @@ use Rattle.vp9_types.specs.declared.outcome.Outcome.TheVariants as outcome
 use Rattle.vp9_types.specs.declared.shape.Shape.{Shape}
 use Rattle.frame_headers.specs.HeaderState.{shape_of}
 use Rattle.frame_headers.specs.declared.header.Header.{Header}
-use Rattle.frame_steps.specs.declared.kept.Kept.{Kept}
-use Rattle.seq_decoder.specs.Outputs.{first_of, fits_format}
-use Rattle.seq_decoder.specs.declared.form.OutputForm.{OutputForm}
+use Rattle.job_results.specs.frame_steps.declared.kept.Kept.{Kept}
+use Rattle.job_results.specs.seq_decoder.Outputs.{first_of, fits_format}
+use Rattle.job_results.specs.seq_decoder.declared.form.OutputForm.{OutputForm}
 use Rattle.job_results.specs.declared.reads.RowReads.{RowReads}
 use Rattle.job_results.specs.declared.result.ClosedFrame.{ClosedFrame}
 use Rattle.job_results.specs.declared.result.JobResult.{JobResult}

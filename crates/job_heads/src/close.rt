@@ -12,16 +12,16 @@ ghost use Rattle.job_results.specs.JobResults.{IsClose, ShowsSlot};
 use crate::frames::FrameList;
 use crate::reads::row_reads;
 use frame_headers::Header;
-use frame_steps::{BegunFrame, Kept, PlannedColumn, PlannedColumns, close, keep};
 use job_crew::Results;
+use job_results::frame_steps::{BegunFrame, Kept, PlannedColumn, PlannedColumns, close, keep};
+use job_results::seq_decoder::{OutputForm, halt_outcome, outcome_at};
+use job_results::tile_syntax::Unplanned;
 use job_results::{
     ClosedFrame, Decode, DecodeRun, HeadRead, JobResult, RowReads, ShownFrame, closed, column,
     head_read,
 };
-use seq_decoder::{OutputForm, halt_outcome, outcome_at};
 use std::alloc::Global;
 use std::marker::PhantomData;
-use tile_syntax::Unplanned;
 use vp9_types::{Outcome, Rule, Shape};
 
 /// The tile columns of a frame, as the results of their jobs.

@@ -6,11 +6,11 @@ ghost use Rattle.job_results.specs.Meaning.{decode_rules, decode_truth};
 ghost use Rattle.job_results.specs.Lent.{IsColumnOf};
 ghost use Rattle.job_results.specs.JobResults.{IsColumn};
 
-use frame_steps::{PlannedColumn, plan_column};
 use job_crew::Results;
+use job_results::frame_steps::{PlannedColumn, plan_column};
+use job_results::tile_syntax::Unplanned;
 use job_results::{Decode, DecodeRun, JobResult, begun};
 use std::alloc::Global;
-use tile_syntax::Unplanned;
 
 /// The plan of a tile column of a frame that has begun, or why there is none.
 fn planned<'a, B: DecodeRun, R: Results<JobResult<'a>, Decode<B>>>(

@@ -2,14 +2,14 @@
 
 ghost use Rattle.std.specs.Prelude.{◌≡◌, ◌<◌, ◌≤◌, ◌^◌, IfOk, drop, length, map};
 ghost use Rattle.std.specs.Option.{option_map};
-ghost use Rattle.numbered_frames.specs.FrameNumbers.{file_ending, frame_at};
-ghost use Rattle.seq_decoder.specs.Outputs.{form_from};
+ghost use Rattle.job_results.specs.numbered_frames.FrameNumbers.{file_ending, frame_at};
+ghost use Rattle.job_results.specs.seq_decoder.Outputs.{form_from};
 ghost use Rattle.job_heads.specs.FrameLists.{AreFrames};
 ghost use Rattle.job_results.specs.JobResults.{outcome_of};
 
 use file_frames::FrameCursor;
 use job_results::DecodeRun;
-use seq_decoder::{OutputForm, outcome_at};
+use job_results::seq_decoder::{OutputForm, outcome_at};
 use std::alloc::{AllocError, Global};
 use std::marker::PhantomData;
 use vp9_types::{Outcome, Rule};

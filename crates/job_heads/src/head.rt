@@ -6,8 +6,8 @@ ghost use Rattle.frame_headers.specs.Header.{head_of};
 ghost use Rattle.frame_headers.specs.FrameSizes.{IsFrameSize};
 ghost use Rattle.frame_headers.specs.Tiles.{AreFewTiles};
 ghost use Rattle.frame_headers.specs.declared.header.FrameHead.TheVariants as head;
-ghost use Rattle.seq_decoder.specs.Code.{LiesWithin};
-ghost use Rattle.numbered_frames.specs.FrameNumbers.{frame_at};
+ghost use Rattle.job_results.specs.seq_decoder.Code.{LiesWithin};
+ghost use Rattle.job_results.specs.numbered_frames.FrameNumbers.{frame_at};
 ghost use Rattle.job_crew.specs.Runs.{IsDue};
 ghost use Rattle.job_results.specs.Meaning.{decode_rules, decode_truth};
 ghost use Rattle.job_results.specs.Lent.{IsKeptBefore};
@@ -15,10 +15,10 @@ ghost use Rattle.job_results.specs.JobResults.{IsHead};
 
 use crate::frames::FrameList;
 use frame_headers::{FrameHead, Header, read};
-use frame_steps::{Kept, begin};
 use job_crew::Results;
+use job_results::frame_steps::{Kept, begin};
+use job_results::seq_decoder::{halt_outcome, outcome_at};
 use job_results::{Decode, DecodeRun, JobResult, closed};
-use seq_decoder::{halt_outcome, outcome_at};
 use std::alloc::Global;
 use vp9_types::{Outcome, Span};
 

@@ -1,16 +1,16 @@
 //! The bands of other frames that the rows of a frame that is closed are predicted from.
 
 ghost use Rattle.std.specs.Prelude.{◌≡◌, ◌<◌, ◌^◌, None, Ok, IfOk, map, slice_index_or};
-ghost use Rattle.frame_steps.specs.StepResults.{IsColumn, IsSound};
+ghost use Rattle.job_results.specs.frame_steps.StepResults.{IsColumn, IsSound};
 ghost use Rattle.job_results.specs.RowReads.{span_of, spans_by};
 ghost use Rattle.job_heads.specs.Reads.{AreReads, IsAllRead};
 
 use band_needs::{BandNeeds, BandRange};
 use frame_headers::{FrameKind, Reference};
-use frame_steps::{BegunFrame, PlannedColumn, PlannedColumns};
 use job_results::RowReads;
+use job_results::frame_steps::{BegunFrame, PlannedColumn, PlannedColumns};
+use job_results::tile_syntax::Unplanned;
 use std::alloc::{AllocError, Global};
-use tile_syntax::Unplanned;
 use vp9_types::BandSpan;
 
 /// The number of the frame that a slot holds.

@@ -15,11 +15,11 @@ use Rattle.frame_headers.specs.declared.header.FrameHead.TheVariants as head
 use Rattle.frame_headers.specs.declared.header.Header.{Header}
 use Rattle.frame_output.specs.declared.rendering.Format.{Format}
 use Rattle.prob_contexts.specs.ProbLists.{ContextLists}
-use Rattle.frame_state.specs.FrameReading.{FrameRead, sources}
-use Rattle.frame_state.specs.Sources.{FrameSources}
-use Rattle.seq_decoder.specs.After.{input_of}
-use Rattle.seq_decoder.specs.Outputs.{Putting}
-use Rattle.seq_decoder.specs.DecoderState.{Picture, persist_of}
+use Rattle.numbered_frames.specs.frame_state.FrameReading.{FrameRead, sources}
+use Rattle.numbered_frames.specs.frame_state.Sources.{FrameSources}
+use Rattle.numbered_frames.specs.seq_decoder.After.{input_of}
+use Rattle.numbered_frames.specs.seq_decoder.Outputs.{Putting}
+use Rattle.numbered_frames.specs.seq_decoder.DecoderState.{Picture, persist_of}
 use Rattle.numbered_frames.specs.Coded.{CodedFrame, IsFrameBefore, begun_from, coded, coded_from, headed_from, read_of, result_of}
 use Rattle.numbered_frames.specs.FrameNumbers.{before, frame_at}
 use Rattle.numbered_frames.specs.NumberedPictures.{picture_from, picture_read, pictures}

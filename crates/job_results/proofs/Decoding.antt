@@ -17,8 +17,8 @@ use Rattle.job_crew.specs.declared.outlet.Ending.{Ending}
 use Rattle.job_crew.specs.declared.outlet.Ending.TheVariants.{Whole, Refused}
 use Rattle.numbered_frames.specs.FrameNumbers.{EndsAt, film_output, text}
 use Rattle.numbered_frames.proofs.Ways.{ends, front}
-use Rattle.seq_decoder.specs.Code.{refusal_outcome}
-use Rattle.seq_decoder.specs.Outcomes.{Completes, Decodes, WritesFront}
+use Rattle.numbered_frames.specs.seq_decoder.Code.{refusal_outcome}
+use Rattle.numbered_frames.specs.seq_decoder.Outcomes.{Completes, Decodes, WritesFront}
 use Rattle.job_results.specs.Endings.{HasRefused, IsOutcome}
 use Rattle.job_results.specs.Meaning.{decode_rules, decode_truth}
 use Rattle.job_results.specs.JobResults.{IsEnd, outcome_of}

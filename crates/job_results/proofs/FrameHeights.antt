@@ -35,7 +35,7 @@ use Rattle.numbered_frames.specs.Coded.{CodedFrame, IsFrameBefore, coded}
 use Rattle.numbered_frames.specs.Films.{Film}
 use Rattle.numbered_frames.specs.FrameNumbers.{before, frame_at}
 use Rattle.numbered_frames.proofs.SlotFrames.{slots_hold}
-use Rattle.seq_decoder.specs.DecoderState.{Picture, persist_of}
+use Rattle.numbered_frames.specs.seq_decoder.DecoderState.{Picture, persist_of}
 use Rattle.job_results.proofs.CodedFrames.{coded_by, slot_at}
 use Rattle.job_results.proofs.NamedSlots.{IsNamed, named_in}
 

@@ -10,8 +10,8 @@ use Rattle.band_needs.specs.declared.ranges.BandNeeds.{BandNeeds}
 use Rattle.counting_reader.specs.Counting.{Settled}
 use Rattle.frame_headers.specs.declared.header.FrameKind.{FrameKind}
 use Rattle.frame_headers.specs.declared.header.FrameKind.TheVariants.{Key, IntraOnly, Inter}
-use Rattle.frame_state.specs.ColumnPlans.{ColumnRead, plan_of, tile_bytes}
-use Rattle.frame_state.specs.FrameReading.{infos}
+use Rattle.numbered_frames.specs.frame_state.ColumnPlans.{ColumnRead, plan_of, tile_bytes}
+use Rattle.numbered_frames.specs.frame_state.FrameReading.{infos}
 use Rattle.frame_steps.specs.Kept.{number_in}
 use Rattle.frame_steps.specs.StepResults.{row_needs_of}
 use Rattle.numbered_frames.specs.Coded.{CodedFrame}

@@ -15,7 +15,7 @@ use Rattle.numbered_frames.specs.FrameNumbers.{EndsAt, before, frame_at}
 use Rattle.numbered_frames.specs.NumberedPictures.{pictures}
 use Rattle.numbered_frames.proofs.LaterFrames.{before_same, coded_same, frame_same, pictures_same, text_same}
 use Rattle.band_cells.specs.Bands.{Picture}
-use Rattle.seq_decoder.specs.Outputs.{Putting, is_first}
+use Rattle.numbered_frames.specs.seq_decoder.Outputs.{Putting, is_first}
 use Rattle.job_results.specs.Slots.{slots_of}
 use Rattle.job_results.specs.JobResults.{IsBegunAs, IsBuiltAs, IsClose, IsClosedAs, IsColumn, IsColumnAs, IsEnd, IsEndResult, HasReads, IsFiltered, IsHead, IsNamed, IsReadFrame, IsRight, IsShown, IsStrip, ShowsSlot, shown_text}
 use Rattle.job_results.specs.declared.result.ClosedFrame.{ClosedFrame}

@@ -9,9 +9,9 @@ use Rattle.frame_headers.specs.declared.header.FrameKind.TheVariants.{Inter}
 use Rattle.frame_headers.specs.declared.header.InterFields.{InterFields}
 use Rattle.frame_headers.specs.declared.header.Reference.{Reference}
 use Rattle.inter_contexts.specs.BlockReferences.{reference_in}
-use Rattle.seq_decoder.specs.Outputs.{Putting}
-use Rattle.seq_decoder.specs.DecoderState.{Picture, persist_of, shape_in_slot}
-use Rattle.seq_decoder.proofs.HeaderReferences.{HoldsReference, references_held}
+use Rattle.numbered_frames.specs.seq_decoder.Outputs.{Putting}
+use Rattle.numbered_frames.specs.seq_decoder.DecoderState.{Picture, persist_of, shape_in_slot}
+use Rattle.numbered_frames.proofs.of_seq_decoder.HeaderReferences.{HoldsReference, references_held}
 use Rattle.numbered_frames.specs.Coded.{CodedFrame}
 use Rattle.job_results.proofs.CodedFrames.{CodedBy}
 

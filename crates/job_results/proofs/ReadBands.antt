@@ -28,7 +28,7 @@ use Rattle.block_plan.specs.declared.block.InterPrediction.{InterPrediction}
 use Rattle.block_plan.specs.declared.block.Prediction.{Prediction}
 use Rattle.block_plan.specs.declared.block.Prediction.TheVariants as prediction
 use Rattle.block_rebuild.specs.Laws.{IsRead}
-use Rattle.column_order.proofs.ColumnFollows.{plan_follows}
+use Rattle.frame_steps.proofs.of_column_order.ColumnFollows.{plan_follows}
 use Rattle.counting_reader.specs.Counting.{Settled}
 use Rattle.frame_headers.specs.HeaderState.{shape_of}
 use Rattle.frame_headers.specs.declared.header.FrameKind.{FrameKind}
@@ -37,8 +37,8 @@ use Rattle.frame_headers.specs.declared.header.Header.{Header}
 use Rattle.frame_headers.specs.declared.header.InterFields.{InterFields}
 use Rattle.frame_headers.specs.declared.header.Reference.{Reference}
 use Rattle.frame_output.specs.declared.rendering.Format.{Format}
-use Rattle.frame_state.specs.ColumnPlans.{ColumnRead, plan_of, tile_bytes}
-use Rattle.frame_state.specs.FrameReading.{infos}
+use Rattle.numbered_frames.specs.frame_state.ColumnPlans.{ColumnRead, plan_of, tile_bytes}
+use Rattle.numbered_frames.specs.frame_state.FrameReading.{infos}
 use Rattle.frame_steps.specs.Kept.{number_in}
 use Rattle.frame_steps.specs.StepResults.{row_needs_of, shapes_by}
 use Rattle.inter_contexts.specs.BlockReferences.{reference_in}
@@ -50,9 +50,9 @@ use Rattle.numbered_frames.specs.Films.{Film}
 use Rattle.numbered_frames.specs.FrameNumbers.{before}
 use Rattle.numbered_frames.specs.NumberedPictures.{pictures}
 use Rattle.numbered_frames.proofs.SlotFrames.{slots_hold}
-use Rattle.recon_rows.specs.RebuiltRows.{blocks_between}
-use Rattle.seq_decoder.specs.DecoderState.{Picture}
-use Rattle.seq_decoder.specs.Outputs.{Putting}
+use Rattle.frame_steps.specs.recon_rows.RebuiltRows.{blocks_between}
+use Rattle.numbered_frames.specs.seq_decoder.DecoderState.{Picture}
+use Rattle.numbered_frames.specs.seq_decoder.Outputs.{Putting}
 use Rattle.job_results.specs.Groups.{numbers_in as numbers_from, span_in, spans_in}
 use Rattle.job_results.specs.RowReads.{no_spans, reads_from, row_reads, row_spans, span_of, spans_by}
 use Rattle.job_results.specs.Slots.{slots_of}

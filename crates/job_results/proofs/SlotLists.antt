@@ -11,8 +11,8 @@ use Rattle.numbered_frames.specs.FrameNumbers.{before}
 use Rattle.numbered_frames.proofs.SlotFrames.{slots_hold}
 use Rattle.numbered_frames.proofs.SlotNumbers.{AreNext, eight_slots, next_slots}
 use Rattle.numbered_frames.proofs.Ways.{passed}
-use Rattle.seq_decoder.specs.DecoderState.{Picture}
-use Rattle.seq_decoder.specs.Outputs.{Putting}
+use Rattle.numbered_frames.specs.seq_decoder.DecoderState.{Picture}
+use Rattle.numbered_frames.specs.seq_decoder.Outputs.{Putting}
 use Rattle.job_results.specs.Groups.{numbers_in as numbers_from}
 use Rattle.job_results.specs.Slots.{numbers_in, slots_of}
 

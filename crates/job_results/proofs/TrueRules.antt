@@ -9,7 +9,7 @@ use Rattle.vp9_types.specs.declared.job.JobName.TheVariants as job
 use Rattle.vp9_types.specs.declared.shape.Shape.{Shape}
 use Rattle.band_cells.specs.Bands.{Picture}
 use Rattle.frame_output.specs.declared.rendering.Format.{Format}
-use Rattle.frame_state.specs.FrameReading.{FrameRead}
+use Rattle.numbered_frames.specs.frame_state.FrameReading.{FrameRead}
 use Rattle.job_order.specs.Truths.{AreTrue, IsFront, IsRightBuilding, IsRightText}
 use Rattle.job_order.specs.Worlds.{Building}
 use Rattle.job_order.specs.declared.event.Done.{Done}

@@ -8,8 +8,8 @@ use Rattle.frame_headers.specs.declared.header.FrameHead.TheVariants as head
 use Rattle.frame_output.specs.declared.rendering.Format.{Format}
 use Rattle.numbered_frames.specs.Coded.{CodedFrame, coded, coded_from, headed_from}
 use Rattle.numbered_frames.specs.FrameNumbers.{frame_at}
-use Rattle.seq_decoder.specs.Outputs.{Putting}
-use Rattle.seq_decoder.specs.DecoderState.{persist_of}
+use Rattle.numbered_frames.specs.seq_decoder.Outputs.{Putting}
+use Rattle.numbered_frames.specs.seq_decoder.DecoderState.{persist_of}
 use Rattle.job_results.specs.JobResults.{ShowsSlot}
 use Rattle.numbered_frames.specs.Films.{Film}
 

@@ -4,7 +4,7 @@ use Rattle.edge_io.specs.declared.sink.PutFault.TheVariants as refused
 use Rattle.vp9_types.specs.declared.outcome.Outcome.{Outcome}
 use Rattle.job_crew.specs.declared.outlet.Ending.{Ending}
 use Rattle.job_crew.specs.declared.outlet.Ending.TheVariants.{Whole, Refused}
-use Rattle.seq_decoder.specs.Code.{refusal_outcome}
+use Rattle.numbered_frames.specs.seq_decoder.Code.{refusal_outcome}
 use Rattle.job_results.specs.declared.result.JobResult.{JobResult}
 use Rattle.job_results.specs.declared.result.JobResult.TheVariants as result
 

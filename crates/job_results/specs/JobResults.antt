@@ -14,19 +14,19 @@ use Rattle.frame_output.specs.Formats.{output_text}
 use Rattle.frame_output.specs.declared.rendering.Format.{Format}
 use Rattle.counting_reader.specs.Counting.{Settled}
 use Rattle.planes.specs.declared.frame_planes.FramePlanes.{FramePlanes}
-use Rattle.frame_state.specs.ColumnPlans.{ColumnRead, plan_of, tile_bytes}
-use Rattle.frame_state.specs.FrameReading.{FrameRead, all_blocks, blocks_read}
-use Rattle.frame_state.specs.Sources.{adapts}
-use Rattle.frame_decoder.specs.DecodedFrames.{raw, rebuilding}
+use Rattle.numbered_frames.specs.frame_state.ColumnPlans.{ColumnRead, plan_of, tile_bytes}
+use Rattle.numbered_frames.specs.frame_state.FrameReading.{FrameRead, all_blocks, blocks_read}
+use Rattle.numbered_frames.specs.frame_state.Sources.{adapts}
+use Rattle.numbered_frames.specs.frame_decoder.DecodedFrames.{raw, rebuilding}
 use Rattle.loop_edges.specs.Cells.{setting_of}
-use Rattle.column_order.specs.ColumnStrips.{column_from, column_to}
-use Rattle.recon_rows.specs.OwnStrips.{HoldsStrip}
+use Rattle.frame_steps.specs.column_order.ColumnStrips.{column_from, column_to}
+use Rattle.frame_steps.specs.recon_rows.OwnStrips.{HoldsStrip}
 use Rattle.filter_rows.specs.Buffer.{HasFiltered}
-use Rattle.frame_close.specs.Code.{GivesColumn}
-use Rattle.tile_syntax.specs.declared.plans.Unplanned.{Unplanned}
-use Rattle.seq_decoder.specs.Outcomes.{outcome_at}
-use Rattle.seq_decoder.specs.Outputs.{Putting, is_first}
-use Rattle.seq_decoder.specs.DecoderState.{persist_of}
+use Rattle.frame_steps.specs.frame_close.Code.{GivesColumn}
+use Rattle.frame_steps.specs.tile_syntax.declared.plans.Unplanned.{Unplanned}
+use Rattle.numbered_frames.specs.seq_decoder.Outcomes.{outcome_at}
+use Rattle.numbered_frames.specs.seq_decoder.Outputs.{Putting, is_first}
+use Rattle.numbered_frames.specs.seq_decoder.DecoderState.{persist_of}
 use Rattle.frame_steps.specs.StepResults.{AreRowNeeds, BeginsIn, IsSound, counts_of, sources_by}
 use Rattle.frame_steps.specs.Kept.{MayFollow, StandsFor}
 use Rattle.frame_steps.specs.declared.beginning.BegunFrame.{BegunFrame}
@@ -44,7 +44,7 @@ use Rattle.job_results.specs.declared.result.JobResult.{JobResult}
 use Rattle.job_results.specs.declared.result.JobResult.TheVariants as result
 use Rattle.job_results.specs.declared.result.ShownFrame.{ShownFrame}
 use Rattle.numbered_frames.specs.Films.{Film}
-use Rattle.tile_syntax.specs.Code.{IsPlanAsRead}
+use Rattle.frame_steps.specs.tile_syntax.Code.{IsPlanAsRead}
 
 ---- The end of a run ----
 

@@ -5,10 +5,10 @@ use Rattle.frame_steps.specs.Kept.{MayFollow, StandsFor}
 use Rattle.frame_steps.specs.declared.beginning.BegunFrame.{BegunFrame}
 use Rattle.frame_steps.specs.declared.columns.PlannedColumn.{PlannedColumn}
 use Rattle.frame_steps.specs.declared.kept.Kept.{Kept}
-use Rattle.tile_syntax.specs.declared.plans.Unplanned.{Unplanned}
+use Rattle.frame_steps.specs.tile_syntax.declared.plans.Unplanned.{Unplanned}
 use Rattle.numbered_frames.specs.Coded.{CodedFrame, coded}
 use Rattle.numbered_frames.specs.FrameNumbers.{before}
-use Rattle.seq_decoder.specs.Outputs.{Putting}
+use Rattle.numbered_frames.specs.seq_decoder.Outputs.{Putting}
 use Rattle.job_results.specs.ResultPlanes.{Keeps}
 use Rattle.job_results.specs.JobResults.{IsAnyFiltered, IsAnyStrip, IsBegunAs, IsColumnAs, ShowsSlot}
 use Rattle.job_results.specs.declared.any_planes.AnyPlanes.{AnyPlanes}

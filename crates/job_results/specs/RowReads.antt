@@ -12,8 +12,8 @@ use Rattle.frame_output.specs.declared.rendering.Format.{Format}
 use Rattle.counting_reader.specs.Counting.{Settled}
 use Rattle.band_needs.specs.declared.ranges.BandNeeds.{BandNeeds}
 use Rattle.band_needs.specs.declared.ranges.BandRange.{BandRange}
-use Rattle.frame_state.specs.ColumnPlans.{ColumnRead, plan_of, tile_bytes}
-use Rattle.frame_state.specs.FrameReading.{infos}
+use Rattle.numbered_frames.specs.frame_state.ColumnPlans.{ColumnRead, plan_of, tile_bytes}
+use Rattle.numbered_frames.specs.frame_state.FrameReading.{infos}
 use Rattle.frame_steps.specs.Kept.{number_in}
 use Rattle.frame_steps.specs.StepResults.{row_needs_of}
 use Rattle.numbered_frames.specs.Coded.{CodedFrame, coded}

@@ -1,7 +1,7 @@
 -- The frames that slots hold, by their numbers.
 use Rattle.std.specs.Prelude.{ℕ, List, [], ◌∷◌, Option, Some, None}
-use Rattle.seq_decoder.specs.Outputs.{Putting}
-use Rattle.seq_decoder.specs.DecoderState.{Picture}
+use Rattle.numbered_frames.specs.seq_decoder.Outputs.{Putting}
+use Rattle.numbered_frames.specs.seq_decoder.DecoderState.{Picture}
 
 abbrev pub numbers_in : List (Option Picture) → List ℕ
 numbers_in [] = []

@@ -11,7 +11,7 @@ ghost use Rattle.job_crew.specs.Events.{CanDo};
 ghost use Rattle.job_order.specs.Truths.{AreTrue};
 ghost use Rattle.job_crew.specs.Runs.{IsDue, IsEnded};
 ghost use Rattle.job_crew.specs.declared.outlet.Ending.{Ending};
-ghost use Rattle.seq_decoder.specs.Outcomes.{Decodes};
+ghost use Rattle.numbered_frames.specs.seq_decoder.Outcomes.{Decodes};
 ghost use Rattle.numbered_frames.specs.Films.{Film, GoesOn};
 ghost use Rattle.numbered_frames.specs.FrameNumbers.{film_output};
 ghost use Rattle.job_results.specs.Endings.{HasRefused, IsOutcome};

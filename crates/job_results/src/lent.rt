@@ -8,9 +8,9 @@ ghost use Rattle.job_results.specs.Lent.{IsBegunFrame, IsColumnOf, IsFilteredOf,
 use crate::any_planes::AnyPlanes;
 use crate::meaning::{Decode, DecodeRun, Group};
 use crate::result::{ClosedFrame, JobResult};
+use frame_steps::tile_syntax::Unplanned;
 use frame_steps::{BegunFrame, PlannedColumn};
 use job_crew::{LastResult, Results};
-use tile_syntax::Unplanned;
 use vp9_types::{JobName, Outcome};
 
 /// What a head has read: a coded frame, or one that shows what a slot holds.

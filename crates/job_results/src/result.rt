@@ -3,9 +3,9 @@
 use crate::any_planes::AnyPlanes;
 use crate::reads::RowReads;
 use edge_io::PutFault;
+use frame_steps::tile_syntax::Unplanned;
 use frame_steps::{BegunFrame, Kept, PlannedColumn};
-use seq_decoder::OutputForm;
-use tile_syntax::Unplanned;
+use numbered_frames::seq_decoder::OutputForm;
 use vp9_types::{Outcome, Shape};
 
 /// The frame of this number and shape is shown.

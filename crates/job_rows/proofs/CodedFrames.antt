@@ -10,17 +10,17 @@ use Rattle.frame_headers.specs.Header.{head_of}
 use Rattle.frame_headers.specs.declared.header.FrameHead.TheVariants as head
 use Rattle.frame_output.specs.declared.rendering.Format.{Format}
 use Rattle.prob_contexts.specs.ProbLists.{ContextLists}
-use Rattle.frame_decoder.specs.DecodedFrames.{FrameResult, decoded, rebuilt}
-use Rattle.frame_state.specs.FrameReading.{FrameRead, read_all_tiles, read_frame, sources}
-use Rattle.frame_state.specs.Sources.{FrameSources}
-use Rattle.seq_decoder.specs.After.{Stepped, after_coded, behind_head, decoded_in, input_of, last_of, shown_picture, state_after, step}
-use Rattle.seq_decoder.specs.Outputs.{Putting, admits, form_after, put, shown_text}
-use Rattle.seq_decoder.specs.DecoderState.{State, persist_of}
-use Rattle.seq_decoder.specs.declared.form.OutputForm.{OutputForm}
-use Rattle.numbered_frames.specs.Coded.{CodedFrame, coded, read_of, references, result_of}
-use Rattle.numbered_frames.specs.FrameNumbers.{before}
-use Rattle.numbered_frames.proofs.Ways.{passed}
-use Rattle.numbered_frames.specs.Films.{Film}
+use Rattle.job_results.specs.frame_decoder.DecodedFrames.{FrameResult, decoded, rebuilt}
+use Rattle.job_results.specs.frame_state.FrameReading.{FrameRead, read_all_tiles, read_frame, sources}
+use Rattle.job_results.specs.frame_state.Sources.{FrameSources}
+use Rattle.job_results.specs.seq_decoder.After.{Stepped, after_coded, behind_head, decoded_in, input_of, last_of, shown_picture, state_after, step}
+use Rattle.job_results.specs.seq_decoder.Outputs.{Putting, admits, form_after, put, shown_text}
+use Rattle.job_results.specs.seq_decoder.DecoderState.{State, persist_of}
+use Rattle.job_results.specs.seq_decoder.declared.form.OutputForm.{OutputForm}
+use Rattle.job_results.specs.numbered_frames.Coded.{CodedFrame, coded, read_of, references, result_of}
+use Rattle.job_results.specs.numbered_frames.FrameNumbers.{before}
+use Rattle.job_results.proofs.of_numbered_frames.Ways.{passed}
+use Rattle.job_results.specs.numbered_frames.Films.{Film}
 use Rattle.job_results.proofs.CodedFrames.{CodedBy, coded_by, inner}
 
 decoded_to : (c : CodedFrame) (read : FrameRead) (from : Option Putting) (frame : Option (List ℕ)) → CodedBy from frame c → read_of c ≡ Ok read

@@ -9,10 +9,10 @@ use Rattle.vp9_types.specs.declared.shape.Depth.TheVariants.{Eight, Ten, Twelve}
 use Rattle.picture_table.specs.KeptPictures.{KeepInWords}
 use Rattle.frame_headers.specs.HeaderState.{shape_of}
 use Rattle.frame_output.specs.declared.rendering.Format.{Format}
-use Rattle.frame_state.specs.FrameReading.{FrameRead}
+use Rattle.job_results.specs.frame_state.FrameReading.{FrameRead}
 use Rattle.job_crew.specs.Runs.{IsDue}
 use Rattle.job_order.specs.Worlds.{Building}
-use Rattle.numbered_frames.specs.Coded.{CodedFrame, coded, read_of}
+use Rattle.job_results.specs.numbered_frames.Coded.{CodedFrame, coded, read_of}
 use Rattle.job_results.specs.Meaning.{builds, decode_rules, decode_truth, shown_as}
 use Rattle.job_results.specs.JobResults.{IsBuiltAs, IsClose, IsClosedAs}
 use Rattle.job_results.specs.declared.result.ClosedFrame.{ClosedFrame}
@@ -20,7 +20,7 @@ use Rattle.job_results.specs.declared.result.JobResult.{JobResult}
 use Rattle.job_results.specs.declared.result.JobResult.TheVariants as result
 use Rattle.job_rows.specs.LentRows.{HasRow, HasStrip, OfFrame}
 use Rattle.job_results.proofs.CodedFrames.{same_coded}
-use Rattle.numbered_frames.specs.Films.{Film}
+use Rattle.job_results.specs.numbered_frames.Films.{Film}
 
 -- a right close that builds a frame
 record IsBuilding (format : Format) (film : Film) (f : ℕ) (b : Building) : Type 0 where

@@ -21,7 +21,7 @@ use Rattle.frame_headers.specs.HeaderState.{shape_of}
 use Rattle.frame_headers.specs.declared.header.FrameSize.{FrameSize}
 use Rattle.frame_headers.specs.declared.header.Header.{Header}
 use Rattle.frame_output.specs.declared.rendering.Format.{Format}
-use Rattle.frame_decoder.specs.DecodedFrames.{raw, rebuilding}
+use Rattle.job_results.specs.frame_decoder.DecodedFrames.{raw, rebuilding}
 use Rattle.loop_edges.specs.Cells.{setting_of}
 use Rattle.loop_edges.specs.FrameEdges.{filtered_frame}
 use Rattle.loop_edges.specs.declared.setting.EdgeSetting.{EdgeSetting}
@@ -31,32 +31,32 @@ use Rattle.filtered_rows.specs.Buffers.{IsFilteredAbove, StandsAbove}
 use Rattle.filtered_rows.specs.BufferRows.{HasFinalRows, HoldRows, IsFiltered}
 use Rattle.filtered_rows.proofs.Finals.{filtered_is_final}
 use Rattle.filtered_rows.proofs.Held.{one_more_holds}
-use Rattle.frame_state.specs.KeptColumns.{blocks_of}
-use Rattle.frame_state.specs.declared.columns.TileColumn.{TileColumn}
-use Rattle.frame_state.specs.ColumnPlans.{ColumnRead, plan_of, tile_bytes}
-use Rattle.frame_state.specs.FrameReading.{FrameRead, all_blocks, blocks_read}
-use Rattle.frame_state.proofs.ColumnBlocks.{all_fit}
-use Rattle.frame_state.proofs.PlanReads.{reads_columns}
-use Rattle.column_order.specs.ColumnStrips.{column_from, column_to}
+use Rattle.job_results.specs.frame_state.KeptColumns.{blocks_of}
+use Rattle.job_results.specs.frame_state.declared.columns.TileColumn.{TileColumn}
+use Rattle.job_results.specs.frame_state.ColumnPlans.{ColumnRead, plan_of, tile_bytes}
+use Rattle.job_results.specs.frame_state.FrameReading.{FrameRead, all_blocks, blocks_read}
+use Rattle.job_results.proofs.of_frame_state.ColumnBlocks.{all_fit}
+use Rattle.job_results.proofs.of_frame_state.PlanReads.{reads_columns}
+use Rattle.job_results.specs.column_order.ColumnStrips.{column_from, column_to}
 use Rattle.column_strips.specs.Laws.{AreColumnStrips}
 use Rattle.column_strips.specs.StripRows.{AreRow}
 use Rattle.column_strips.proofs.RowOfStrips.{row_is}
-use Rattle.recon_rows.specs.OwnStrips.{HoldsStrip}
-use Rattle.seq_decoder.specs.After.{last_of}
-use Rattle.seq_decoder.specs.Code.{last_held, last_of_code}
-use Rattle.seq_decoder.specs.Outputs.{Putting}
-use Rattle.seq_decoder.specs.DecoderState.{LastFrame}
-use Rattle.seq_decoder.specs.declared.last.LastFrame as code_last
-use Rattle.numbered_frames.specs.Coded.{CodedFrame, coded, read_of, references, result_of}
-use Rattle.numbered_frames.specs.NumberedPictures.{pictures}
-use Rattle.frame_steps.specs.declared.beginning.BegunFrame.{BegunFrame}
+use Rattle.column_strips.specs.recon_rows.OwnStrips.{HoldsStrip}
+use Rattle.job_results.specs.seq_decoder.After.{last_of}
+use Rattle.job_results.specs.seq_decoder.Code.{last_held, last_of_code}
+use Rattle.job_results.specs.seq_decoder.Outputs.{Putting}
+use Rattle.job_results.specs.seq_decoder.DecoderState.{LastFrame}
+use Rattle.job_results.specs.seq_decoder.declared.last.LastFrame as code_last
+use Rattle.job_results.specs.numbered_frames.Coded.{CodedFrame, coded, read_of, references, result_of}
+use Rattle.job_results.specs.numbered_frames.NumberedPictures.{pictures}
+use Rattle.job_results.specs.frame_steps.declared.beginning.BegunFrame.{BegunFrame}
 use Rattle.job_results.specs.Lent.{IsBegunFrame}
 use Rattle.job_results.specs.JobResults.{IsBuiltAs, IsClosedAs, IsFilteredAs, IsStripAs}
 use Rattle.job_results.specs.declared.result.ClosedFrame.{ClosedFrame}
 use Rattle.job_rows.specs.LentRows.{AreStrips, IsFilteredOver, raw_from, raw_frame, raw_read}
 use Rattle.job_results.proofs.CodedFrames.{CodedBy, coded_by, inner, picture_is, same_coded, same_header}
 use Rattle.job_rows.proofs.CodedFrames.{last_is}
-use Rattle.numbered_frames.specs.Films.{Film}
+use Rattle.job_results.specs.numbered_frames.Films.{Film}
 
 same_read : (c : CodedFrame) (a b : FrameRead) → read_of c ≡ Ok a → read_of c ≡ Ok b → a ≡ b
 same_read c a b is also = let same : ◌≡◌ {A = _} (Ok a) (Ok b) = sym is ∙ also in cc

@@ -14,24 +14,24 @@ use Rattle.frame_headers.specs.declared.header.InterFields.{InterFields}
 use Rattle.frame_headers.specs.declared.header.Reference.{Reference}
 use Rattle.frame_output.specs.declared.rendering.Format.{Format}
 use Rattle.frame_headers.specs.declared.header.Header.{Header}
-use Rattle.frame_steps.specs.Kept.{number_in}
-use Rattle.frame_steps.specs.declared.beginning.BegunFrame.{BegunFrame}
+use Rattle.job_results.specs.frame_steps.Kept.{number_in}
+use Rattle.job_results.specs.frame_steps.declared.beginning.BegunFrame.{BegunFrame}
 use Rattle.job_results.specs.Lent.{IsBegunFrame}
 use Rattle.inter_contexts.specs.BlockReferences.{reference_in}
-use Rattle.seq_decoder.specs.Outputs.{Putting}
-use Rattle.seq_decoder.specs.DecoderState.{Picture, persist_of, shape_in_slot}
-use Rattle.seq_decoder.proofs.HeaderReferences.{HoldsReference, references_held}
-use Rattle.numbered_frames.specs.Coded.{CodedFrame, IsFrameBefore, coded}
-use Rattle.numbered_frames.specs.FrameNumbers.{before, frame_at, start}
-use Rattle.numbered_frames.specs.NumberedPictures.{pictures}
-use Rattle.numbered_frames.proofs.SlotFrames.{slots_hold}
+use Rattle.job_results.specs.seq_decoder.Outputs.{Putting}
+use Rattle.job_results.specs.seq_decoder.DecoderState.{Picture, persist_of, shape_in_slot}
+use Rattle.job_results.proofs.of_seq_decoder.HeaderReferences.{HoldsReference, references_held}
+use Rattle.job_results.specs.numbered_frames.Coded.{CodedFrame, IsFrameBefore, coded}
+use Rattle.job_results.specs.numbered_frames.FrameNumbers.{before, frame_at, start}
+use Rattle.job_results.specs.numbered_frames.NumberedPictures.{pictures}
+use Rattle.job_results.proofs.of_numbered_frames.SlotFrames.{slots_hold}
 use Rattle.job_results.specs.JobResults.{IsClosedAs}
 use Rattle.job_results.specs.declared.result.ClosedFrame.{ClosedFrame}
 use Rattle.job_rows.specs.LentReferences.{HaveBands, IsInside, IsNumberOf, IsReferred, Names, NamesAll}
 use Rattle.job_rows.specs.LentRows.{IsOfDepth}
 use Rattle.job_results.proofs.CodedFrames.{CodedBy, IsPictureOf, before_is, coded_by, inner, same_coded, slot_at}
 use Rattle.job_results.proofs.NamedSlots.{IsNamed, at_mapped, named_in}
-use Rattle.numbered_frames.specs.Films.{Film}
+use Rattle.job_results.specs.numbered_frames.Films.{Film}
 
 ---- Slots ----
 

@@ -36,7 +36,7 @@ use Rattle.counting_reader.specs.Counting.{Settled}
 use Rattle.filtered_rows.specs.Code.{held_in, map_in, rows_from, width_in}
 use Rattle.filtered_rows.specs.BufferRows.{RowSpan}
 use Rattle.filtered_rows.proofs.Held.{rows_have_bands}
-use Rattle.frame_close.specs.Code.{GivesColumn}
+use Rattle.job_results.specs.frame_close.Code.{GivesColumn}
 use Rattle.frame_headers.specs.References.{has_allowed_scale}
 use Rattle.frame_headers.specs.FrameSizes.{HasFrameSize, IsFrameSize}
 use Rattle.frame_headers.specs.Spans.{tile_count, tile_spans}
@@ -45,36 +45,36 @@ use Rattle.frame_headers.specs.declared.header.FrameKind.{FrameKind}
 use Rattle.frame_headers.specs.declared.header.FrameKind.TheVariants.{Key, IntraOnly, Inter}
 use Rattle.frame_headers.specs.declared.header.Header.{Header}
 use Rattle.frame_headers.specs.declared.header.InterFields.{InterFields}
-use Rattle.frame_decoder.specs.DecodedFrames.{rebuilding}
+use Rattle.job_results.specs.frame_decoder.DecodedFrames.{rebuilding}
 use Rattle.frame_output.specs.declared.rendering.Format.{Format}
-use Rattle.frame_state.specs.KeptColumns.{IsTileColumn, limit_of}
-use Rattle.frame_state.specs.ColumnPlans.{ColumnRead, plan_of, tile_bytes}
-use Rattle.frame_state.specs.Sources.{adapts}
-use Rattle.frame_state.proofs.PlanReads.{reads_columns}
+use Rattle.job_results.specs.frame_state.KeptColumns.{IsTileColumn, limit_of}
+use Rattle.job_results.specs.frame_state.ColumnPlans.{ColumnRead, plan_of, tile_bytes}
+use Rattle.job_results.specs.frame_state.Sources.{adapts}
+use Rattle.job_results.proofs.of_frame_state.PlanReads.{reads_columns}
 use Rattle.frame_setting.specs.declared.setting.FrameSetting.{FrameSetting}
-use Rattle.frame_steps.specs.declared.beginning.BegunFrame.{BegunFrame}
+use Rattle.job_results.specs.frame_steps.declared.beginning.BegunFrame.{BegunFrame}
 use Rattle.picture_range.proofs.Ranges.{picture_small}
 use Rattle.job_results.specs.Lent.{IsBegunFrame}
 use Rattle.frame_headers.specs.Tiles.{AreFewTiles}
-use Rattle.frame_steps.specs.StepResults.{HaveSizes, counts_of, row_needs_of, shapes_by}
-use Rattle.frame_steps.specs.declared.columns.PlannedColumn.{PlannedColumn}
-use Rattle.frame_steps.specs.declared.strips.PlannedRow.{PlannedRow}
+use Rattle.job_results.specs.frame_steps.StepResults.{HaveSizes, counts_of, row_needs_of, shapes_by}
+use Rattle.job_results.specs.frame_steps.declared.columns.PlannedColumn.{PlannedColumn}
+use Rattle.job_results.specs.frame_steps.declared.strips.PlannedRow.{PlannedRow}
 use Rattle.inter_contexts.specs.BlockReferences.{reference_in, second_in_range}
 use Rattle.inter_modes.specs.Code.{RefersInRange}
 use Rattle.inter_places.specs.Places.{IsReference}
-use Rattle.column_order.specs.ColumnStrips.{column_from, column_to}
-use Rattle.recon_rows.specs.RebuiltRows.{blocks_between}
-use Rattle.recon_rows.specs.OwnStrips.{HoldsRowOf, HoldsStrip, IsAbove, IsReadPlan, blocks_of_plan}
-use Rattle.recon_rows.proofs.StripPlans.{plan_is, plan_read}
-use Rattle.seq_decoder.specs.After.{picture_in, references_of}
-use Rattle.seq_decoder.specs.DecoderState.{Picture}
-use Rattle.seq_decoder.proofs.PastLemmas.{is_reference}
-use Rattle.tile_syntax.specs.Code.{IsKept, IsPlanAsRead}
-use Rattle.tile_syntax.specs.declared.plans.ColumnPlan.{ColumnPlan}
-use Rattle.tile_syntax.specs.declared.plans.Unplanned.{Unplanned}
-use Rattle.tile_syntax.specs.declared.plans.Unplanned.TheVariants as unplanned
-use Rattle.numbered_frames.specs.Coded.{CodedFrame, coded, read_of, references}
-use Rattle.numbered_frames.specs.NumberedPictures.{pictures}
+use Rattle.job_results.specs.column_order.ColumnStrips.{column_from, column_to}
+use Rattle.column_strips.specs.recon_rows.RebuiltRows.{blocks_between}
+use Rattle.column_strips.specs.recon_rows.OwnStrips.{HoldsRowOf, HoldsStrip, IsAbove, IsReadPlan, blocks_of_plan}
+use Rattle.column_strips.proofs.of_recon_rows.StripPlans.{plan_is, plan_read}
+use Rattle.job_results.specs.seq_decoder.After.{picture_in, references_of}
+use Rattle.job_results.specs.seq_decoder.DecoderState.{Picture}
+use Rattle.job_results.proofs.of_seq_decoder.PastLemmas.{is_reference}
+use Rattle.job_results.specs.tile_syntax.Code.{IsKept, IsPlanAsRead}
+use Rattle.job_results.specs.tile_syntax.declared.plans.ColumnPlan.{ColumnPlan}
+use Rattle.job_results.specs.tile_syntax.declared.plans.Unplanned.{Unplanned}
+use Rattle.job_results.specs.tile_syntax.declared.plans.Unplanned.TheVariants as unplanned
+use Rattle.job_results.specs.numbered_frames.Coded.{CodedFrame, coded, read_of, references}
+use Rattle.job_results.specs.numbered_frames.NumberedPictures.{pictures}
 use Rattle.job_results.specs.JobResults.{IsColumnAs, IsPlannedAs, IsStripAs}
 use Rattle.job_rows.specs.LentReferences.{AreInside, IsInside, IsReferenceRows}
 use Rattle.job_rows.specs.LentRows.{HasStrip, IsStripOver}
@@ -85,7 +85,7 @@ use Rattle.job_results.proofs.ReadBands.{shapes_are}
 use Rattle.job_results.proofs.CodedFrames.{coded_by, same_coded, same_header}
 use Rattle.job_results.proofs.NamedSlots.{named_in}
 use Rattle.job_rows.proofs.NamedFrames.{picture_of_number}
-use Rattle.numbered_frames.specs.Films.{Film}
+use Rattle.job_results.specs.numbered_frames.Films.{Film}
 
 ---- A plan ----
 

@@ -14,11 +14,11 @@ use Rattle.frame_output.specs.declared.rendering.Format.{Format}
 use Rattle.inter_contexts.specs.BlockReferences.{reference_in}
 use Rattle.band_needs.specs.declared.ranges.BandRange.{BandRange}
 use Rattle.filtered_rows.specs.BufferRows.{HoldRows}
-use Rattle.numbered_frames.specs.Coded.{CodedFrame, coded}
-use Rattle.numbered_frames.specs.NumberedPictures.{pictures}
-use Rattle.seq_decoder.specs.DecoderState.{Picture}
+use Rattle.job_results.specs.numbered_frames.Coded.{CodedFrame, coded}
+use Rattle.job_results.specs.numbered_frames.NumberedPictures.{pictures}
+use Rattle.job_results.specs.seq_decoder.DecoderState.{Picture}
 use Rattle.job_rows.specs.declared.references.ReferenceRows.{ReferenceRows}
-use Rattle.numbered_frames.specs.Films.{Film}
+use Rattle.job_results.specs.numbered_frames.Films.{Film}
 
 -- a frame of this kind names the reference
 abbrev pub Names : FrameKind → Reference → Type 0

@@ -8,12 +8,12 @@ use Rattle.vp9_types.specs.declared.shape.Depth.{Depth}
 use Rattle.frame_headers.specs.HeaderState.{shape_of}
 use Rattle.planes.specs.Pictures.{blank}
 use Rattle.planes.specs.declared.frame_planes.FramePlanes.{FramePlanes}
-use Rattle.frame_decoder.specs.DecodedFrames.{raw, rebuilding}
+use Rattle.job_results.specs.frame_decoder.DecodedFrames.{raw, rebuilding}
 use Rattle.frame_output.specs.declared.rendering.Format.{Format}
-use Rattle.frame_state.specs.FrameReading.{FrameRead}
-use Rattle.numbered_frames.specs.Coded.{CodedFrame, coded, read_of, references}
+use Rattle.job_results.specs.frame_state.FrameReading.{FrameRead}
+use Rattle.job_results.specs.numbered_frames.Coded.{CodedFrame, coded, read_of, references}
 use Rattle.job_results.specs.JobResults.{IsFilteredAs, IsStripAs}
-use Rattle.numbered_frames.specs.Films.{Film}
+use Rattle.job_results.specs.numbered_frames.Films.{Film}
 
 ---- A frame ----
 

@@ -11,15 +11,15 @@ use Rattle.frame_headers.specs.declared.header.InterFields.{InterFields}
 use Rattle.frame_output.specs.declared.rendering.Format.{Format}
 use Rattle.vp9_types.specs.declared.shape.Shape.{Shape}
 use Rattle.block_rebuild.specs.declared.references.ReferencePicture.{ReferencePicture}
-use Rattle.frame_state.specs.ColumnPlans.{tile_bytes}
-use Rattle.frame_steps.specs.StepResults.{HaveSizes, row_needs_of}
-use Rattle.frame_steps.specs.declared.strips.PlannedRow.{PlannedRow}
+use Rattle.job_results.specs.frame_state.ColumnPlans.{tile_bytes}
+use Rattle.job_results.specs.frame_steps.StepResults.{HaveSizes, row_needs_of}
+use Rattle.job_results.specs.frame_steps.declared.strips.PlannedRow.{PlannedRow}
 use Rattle.band_needs.specs.declared.ranges.BandNeeds.{BandNeeds}
-use Rattle.numbered_frames.specs.Coded.{CodedFrame}
+use Rattle.job_results.specs.numbered_frames.Coded.{CodedFrame}
 use Rattle.job_rows.specs.LentReferences.{IsReferenceRows}
 use Rattle.job_rows.specs.declared.strips.AllRows.{AllRows}
-use Rattle.numbered_frames.specs.Films.{Film}
-use Rattle.tile_syntax.specs.Code.{IsPlanAsRead}
+use Rattle.job_results.specs.numbered_frames.Films.{Film}
+use Rattle.job_results.specs.tile_syntax.Code.{IsPlanAsRead}
 
 -- a row of superblocks of a tile column of a coded frame, which is planned
 pub record IsPlannedRow (c : CodedFrame) (of : PlannedRow) : Type 0 where

@@ -4,8 +4,8 @@ ghost use Rattle.std.specs.Prelude.{◌≡◌, ◌≤◌, ◌-◌, Some, IfOk, l
 ghost use Rattle.vp9_types.specs.Shapes.{mi_rows};
 ghost use Rattle.vp9_types.specs.Sizes.{superblocks_along};
 ghost use Rattle.filtered_rows.specs.BufferRows.{HasFinalRows, HoldRows};
-ghost use Rattle.numbered_frames.specs.Coded.{CodedFrame, coded};
-ghost use Rattle.numbered_frames.specs.NumberedPictures.{pictures};
+ghost use Rattle.job_results.specs.numbered_frames.Coded.{CodedFrame, coded};
+ghost use Rattle.job_results.specs.numbered_frames.NumberedPictures.{pictures};
 ghost use Rattle.job_results.specs.JobResults.{IsFilteredAs, IsStripAs};
 ghost use Rattle.job_rows.specs.LentRows.{IsOfDepth, OfFrame};
 

@@ -7,7 +7,10 @@ mod references;
 mod sample;
 mod strips;
 
+pub use filtered_rows;
 pub use filters::do_filter;
+pub use job_results;
+pub use job_results::seq_decoder;
 pub use lent::rows_of;
 pub use sample::PlaneSample;
 pub use strips::do_rows;

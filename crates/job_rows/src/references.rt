@@ -5,7 +5,7 @@ ghost use Rattle.vp9_types.specs.Shapes.{mi_rows};
 ghost use Rattle.vp9_types.specs.Sizes.{superblocks_along};
 ghost use Rattle.filtered_rows.specs.Code.{rows_from};
 ghost use Rattle.filtered_rows.specs.BufferRows.{HoldRows};
-ghost use Rattle.numbered_frames.specs.NumberedPictures.{pictures};
+ghost use Rattle.job_results.specs.numbered_frames.NumberedPictures.{pictures};
 ghost use Rattle.job_rows.specs.LentReferences.{IsInside, IsNumberOf, IsReferenceRows, IsReferred};
 
 use crate::lent::rows_of;

@@ -13,7 +13,7 @@ use vp9_types::Sample;
 pub trait PlaneSample: Sample {
     ghost use Rattle.std.specs.Prelude.{ℕ};
     ghost use Rattle.vp9_types.specs.declared.shape.Depth.{Depth};
-    ghost use Rattle.numbered_frames.specs.Coded.{CodedFrame};
+    ghost use Rattle.job_results.specs.numbered_frames.Coded.{CodedFrame};
     ghost use Rattle.job_results.specs.JobResults.{IsAnyFiltered, IsAnyStrip, IsFilteredAs, IsStripAs};
     ghost use Rattle.job_results.specs.declared.any_planes.AnyPlanes.{AnyPlanes as Planes};
     ghost use Rattle.planes.specs.declared.frame_planes.FramePlanes.{FramePlanes as Kept};

@@ -8,13 +8,13 @@ ghost use Rattle.frame_headers.specs.HeaderState.{shape_of};
 ghost use Rattle.frame_output.specs.declared.rendering.Format.{Format};
 ghost use Rattle.picture_table.specs.KeptPictures.{KeepInBytes, KeepInWords};
 ghost use Rattle.job_crew.specs.Runs.{IsDue};
-ghost use Rattle.numbered_frames.specs.Coded.{CodedFrame, coded};
+ghost use Rattle.job_results.specs.numbered_frames.Coded.{CodedFrame, coded};
 ghost use Rattle.job_results.specs.Meaning.{decode_rules, decode_truth};
 ghost use Rattle.job_results.specs.JobResults.{IsPlannedAs, IsStrip, IsStripAs};
 ghost use Rattle.job_rows.specs.LentReferences.{AreInside, NamesAll};
 ghost use Rattle.job_rows.specs.LentRows.{HasStrip, IsOfDepth, IsStripOver, OfFrame};
 ghost use Rattle.job_rows.specs.LentStrips.{AreAllRows, IsPicture, IsPlannedRow, ReadsRows, RefersToNone};
-ghost use Rattle.numbered_frames.specs.Films.{Film};
+ghost use Rattle.job_results.specs.numbered_frames.Films.{Film};
 
 use crate::lent::{depth_of, strip_planes};
 use crate::references::{ReferenceRows, reference_rows};
@@ -24,12 +24,12 @@ use block_rebuild::{Rebuilding, ReferencePicture, RoomSample};
 use filtered_rows::FilteredFrame;
 use frame_headers::{FrameKind, InterFields};
 use frame_setting::FrameSetting;
-use frame_steps::{PlannedColumn, PlannedRow, put_strip};
 use job_crew::Results;
+use job_results::frame_steps::{PlannedColumn, PlannedRow, put_strip};
+use job_results::tile_syntax::{ColumnPlan, Unplanned};
 use job_results::{AnyPlanes, Decode, DecodeRun, JobResult, begun, column};
 use planes::FramePlanes;
 use std::alloc::{AllocError, Global};
-use tile_syntax::{ColumnPlan, Unplanned};
 use vp9_types::{Depth, Sample, Shape};
 
 /// The plan of a tile column of a frame whose tiles are all read, which has this row of superblocks. There is none where memory was wanting for

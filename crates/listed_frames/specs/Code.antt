@@ -1,11 +1,11 @@
 -- What the calls answer.
 use Rattle.std.specs.Prelude.{◌≡◌, Bool, true, false, Result, Err}
-use Rattle.frame_writer.specs.declared.written.NotWritten.{NotWritten}
-use Rattle.frame_writer.specs.declared.written.NotWritten.TheVariants.{Unsaid}
-use Rattle.frame_writer.specs.declared.written.Written.{Written}
+use Rattle.listed_symbols.specs.frame_writer.declared.written.NotWritten.{NotWritten}
+use Rattle.listed_symbols.specs.frame_writer.declared.written.NotWritten.TheVariants.{Unsaid}
+use Rattle.listed_symbols.specs.frame_writer.declared.written.Written.{Written}
 use Rattle.listed_symbols.specs.ListedBlocks.{listed}
 use Rattle.listed_symbols.specs.declared.lists.ListedSymbols.{ListedSymbols}
-use Rattle.seq_decoder.specs.DecoderState.{State}
+use Rattle.stream_forge.specs.seq_decoder.DecoderState.{State}
 use Rattle.stream_forge.specs.Code.{GivesBehind}
 use Rattle.stream_forge.specs.declared.coded.CodedFrame.{CodedFrame}
 

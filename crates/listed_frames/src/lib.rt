@@ -5,3 +5,7 @@
 mod listed;
 
 pub use listed::write_listed;
+pub use listed_symbols;
+pub use listed_symbols::{frame_writer, inter_writer, residue_writer};
+pub use stream_forge;
+pub use stream_forge::seq_decoder;

@@ -5,17 +5,17 @@ ghost use Rattle.frame_headers.specs.declared.header.Uncompressed.TheVariants.{C
 ghost use Rattle.header_writer.specs.WellFormed.{CanChoose, IsWellFormed};
 ghost use Rattle.prob_contexts.specs.ProbLists.{ContextLists};
 ghost use Rattle.compressed_writer.specs.CodedUpdates.{CanForward};
-ghost use Rattle.seq_decoder.specs.Code.{MayDecode, StandsFor};
-ghost use Rattle.seq_decoder.specs.DecoderState.{State};
+ghost use Rattle.stream_forge.specs.seq_decoder.Code.{MayDecode, StandsFor};
+ghost use Rattle.stream_forge.specs.seq_decoder.DecoderState.{State};
 ghost use Rattle.listed_frames.specs.Headings.{can_say};
 ghost use Rattle.listed_frames.specs.Code.{GivesListed};
 
 use frame_headers::{Persist, Uncompressed};
-use frame_writer::{NotWritten, Written};
 use header_checks::{can_choose, can_say_modes, is_well_formed};
 use listed_symbols::ListedSymbols;
-use seq_decoder::Decoder;
+use listed_symbols::frame_writer::{NotWritten, Written};
 use std::alloc::Global;
+use stream_forge::seq_decoder::Decoder;
 use stream_forge::{CodedFrame, write_coded};
 
 /// Whether what a frame says before its blocks can be said behind what persists.

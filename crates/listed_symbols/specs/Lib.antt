@@ -4,3 +4,4 @@ pub mod InterTests
 pub mod IntraTests
 pub mod ListedLevels
 pub mod StartTests
+pub use Rattle.frame_writer.specs as frame_writer

@@ -12,4 +12,7 @@ mod starts;
 mod symbols;
 mod vectors;
 
+pub use frame_writer;
+pub use inter_writer;
 pub use lists::{ListedBlock, ListedLevels, ListedSymbols};
+pub use residue_writer;

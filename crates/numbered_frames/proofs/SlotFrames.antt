@@ -16,8 +16,8 @@ use Rattle.frame_headers.specs.declared.header.Header.{Header}
 use Rattle.file_frames.specs.Walks.{Added}
 use Rattle.frame_output.specs.declared.rendering.Format.{Format}
 use Rattle.prob_contexts.specs.ProbLists.{ContextLists}
-use Rattle.frame_decoder.specs.DecodedFrames.{FrameResult, decoded, rebuilt}
-use Rattle.frame_state.specs.FrameReading.{FrameRead, read_all_tiles, read_frame, read_tiles, sources}
+use Rattle.seq_decoder.specs.frame_decoder.DecodedFrames.{FrameResult, decoded, rebuilt}
+use Rattle.seq_decoder.specs.frame_state.FrameReading.{FrameRead, read_all_tiles, read_frame, read_tiles, sources}
 use Rattle.seq_decoder.specs.After.{Stepped, after_coded, behind_head, decoded_in, input_of, picture_of, references_of, state_after, step}
 use Rattle.vp9_types.specs.declared.rule.Rule.TheVariants.{OutputShape}
 use Rattle.seq_decoder.specs.Outputs.{Putting, admits, form_after, put, shown_text}

@@ -13,9 +13,9 @@ use Rattle.prob_contexts.specs.ProbLists.{ContextLists}
 use Rattle.compressed_header.specs.CompressedHeader.{forward}
 use Rattle.frame_output.specs.declared.rendering.Format.{Format}
 use Rattle.block_rebuild.specs.InterBlocks.{ReferencePicture}
-use Rattle.frame_state.specs.FrameReading.{FrameRead, read_all_tiles, sources}
-use Rattle.frame_state.specs.Sources.{FrameSources}
-use Rattle.frame_decoder.specs.DecodedFrames.{FrameResult, rebuilt}
+use Rattle.seq_decoder.specs.frame_state.FrameReading.{FrameRead, read_all_tiles, sources}
+use Rattle.seq_decoder.specs.frame_state.Sources.{FrameSources}
+use Rattle.seq_decoder.specs.frame_decoder.DecodedFrames.{FrameResult, rebuilt}
 use Rattle.seq_decoder.specs.After.{input_of, picture_of, references_of}
 use Rattle.seq_decoder.specs.Outputs.{Putting}
 use Rattle.seq_decoder.specs.DecoderState.{Picture, persist_of}

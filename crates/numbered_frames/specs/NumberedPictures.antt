@@ -5,7 +5,7 @@ use Rattle.vp9_types.specs.declared.shape.Depth.TheVariants.{Eight}
 use Rattle.band_cells.specs.Bands.{Picture}
 use Rattle.frame_headers.specs.HeaderState.{shape_of}
 use Rattle.frame_output.specs.declared.rendering.Format.{Format}
-use Rattle.frame_state.specs.FrameReading.{FrameRead}
+use Rattle.seq_decoder.specs.frame_state.FrameReading.{FrameRead}
 use Rattle.planes.specs.Pictures.{blank}
 use Rattle.numbered_frames.specs.Coded.{CodedFrame, coded, read_of, result_of}
 use Rattle.numbered_frames.specs.Films.{Film}

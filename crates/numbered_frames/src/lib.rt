@@ -4,3 +4,5 @@
 mod laws;
 
 pub use laws::{frames_are_the_output, later_frames_change_no_earlier_one, slots_hold_frames};
+pub use seq_decoder;
+pub use seq_decoder::frame_state;

@@ -53,11 +53,11 @@ use Rattle.loop_edges.specs.Cells.{cell_at, sub_x, sub_y, outer_edge, has_inner,
 use Rattle.loop_edges.specs.FrameEdges.{side_edge, middle_edge, side_edges, middle_edges, both_edges, block_edges, edges_of, cell_edges, cells_of, cell_row, pass_edges, superblock_edges, row_edges, frame_edges, filtered_frame}
 use Rattle.loop_edges.specs.FilterLevels.{filter_level, limits_of}
 use Rattle.loop_edges.specs.declared.setting.EdgeSetting.{EdgeSetting}
-use Rattle.frame_state.specs.FrameReading.{FrameRead, all_blocks, blocks_read}
-use Rattle.frame_decoder.specs.DecodedFrames.{put_more, raw, rebuilding}
-use Rattle.seq_decoder.specs.After.{input_of}
-use Rattle.seq_decoder.specs.Outputs.{Putting}
-use Rattle.seq_decoder.specs.DecoderState.{persist_of}
+use Rattle.numbered_frames.specs.frame_state.FrameReading.{FrameRead, all_blocks, blocks_read}
+use Rattle.numbered_frames.specs.frame_decoder.DecodedFrames.{put_more, raw, rebuilding}
+use Rattle.numbered_frames.specs.seq_decoder.After.{input_of}
+use Rattle.numbered_frames.specs.seq_decoder.Outputs.{Putting}
+use Rattle.numbered_frames.specs.seq_decoder.DecoderState.{persist_of}
 use Rattle.numbered_frames.specs.Coded.{CodedFrame, begun_from, coded, coded_from, headed_from, read_of, references}
 use Rattle.numbered_frames.specs.FrameNumbers.{before, frame_at}
 use Rattle.numbered_frames.specs.NumberedPictures.{picture_from, picture_read, pictures}

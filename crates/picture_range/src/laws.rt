@@ -7,7 +7,7 @@ ghost use Rattle.vp9_types.specs.declared.shape.Plane.{Plane};
 ghost use Rattle.block_plan.specs.Planned.{PlannedBlock};
 ghost use Rattle.block_plan.specs.declared.block.BlockInfo.{BlockInfo};
 ghost use Rattle.block_rebuild.specs.InterBlocks.{Rebuilding};
-ghost use Rattle.frame_decoder.specs.DecodedFrames.{raw};
+ghost use Rattle.numbered_frames.specs.frame_decoder.DecodedFrames.{raw};
 ghost use Rattle.frame_output.specs.declared.rendering.Format.{Format};
 ghost use Rattle.loop_edges.specs.FrameEdges.{filtered_frame};
 ghost use Rattle.loop_edges.specs.declared.setting.EdgeSetting.{EdgeSetting};

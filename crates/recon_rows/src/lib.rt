@@ -9,3 +9,4 @@ mod strips;
 pub use laws::{blocks_of_tile_columns_are_placed, plans_are_tile_columns};
 pub use row::put_row;
 pub use strips::{new_strip, rows};
+pub use tile_syntax;

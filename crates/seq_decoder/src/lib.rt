@@ -17,6 +17,8 @@ mod showing;
 pub use coding::own_contexts;
 pub use decoder::Decoder;
 pub use form::OutputForm;
+pub use frame_decoder;
+pub use frame_state;
 pub use last::{LastFrame, replace_last};
 pub use laws::headers_read_what_persists;
 pub use outcomes::{halt_outcome, outcome_at, refusal_outcome};

@@ -20,8 +20,8 @@ use Rattle.frame_groups.specs.Groups.{ahead, begun_of, source_of}
 use Rattle.frame_groups.specs.declared.reader.GroupReader.{GroupReader}
 use Rattle.frame_groups.proofs.Files.{no_file}
 use Rattle.frame_groups.proofs.Fronts.{looked_ahead}
-use Rattle.seq_decoder.specs.Outcomes.{outcome_at}
-use Rattle.seq_decoder.specs.Outputs.{form_from, output_of, putting}
+use Rattle.job_decoder.specs.seq_decoder.Outcomes.{outcome_at}
+use Rattle.job_decoder.specs.seq_decoder.Outputs.{form_from, output_of, putting}
 use Rattle.stream_decoder.proofs.FilmLemmas.{ended_at}
 use Rattle.stream_decoder.specs.Streams.{BreaksNoFrame, DecodesSource, MayHaveFailed, WritesAll, WritesTaken}
 

@@ -13,12 +13,12 @@ use Rattle.frame_groups.proofs.Files.{ivf_frames}
 use Rattle.frame_groups.proofs.HeaderFronts.{along_rate, front_isnt_webm}
 use Rattle.frame_groups.specs.Groups.{LeadAlong, frames_ahead}
 use Rattle.job_order.specs.Sound.{texts_below}
-use Rattle.seq_decoder.specs.Outcomes.{WritesFront}
-use Rattle.seq_decoder.specs.Outputs.{Putting, form_from, output_of, putting}
-use Rattle.numbered_frames.proofs.LaterFrames.{before_same, text_same}
-use Rattle.numbered_frames.proofs.Ways.{ends, files_are_films, front}
-use Rattle.numbered_frames.specs.Films.{Film, GoesOn, film_of}
-use Rattle.numbered_frames.specs.FrameNumbers.{EndsAt, file_ending, film_output, start, text}
+use Rattle.job_decoder.specs.seq_decoder.Outcomes.{WritesFront}
+use Rattle.job_decoder.specs.seq_decoder.Outputs.{Putting, form_from, output_of, putting}
+use Rattle.job_decoder.proofs.of_numbered_frames.LaterFrames.{before_same, text_same}
+use Rattle.job_decoder.proofs.of_numbered_frames.Ways.{ends, files_are_films, front}
+use Rattle.job_decoder.specs.numbered_frames.Films.{Film, GoesOn, film_of}
+use Rattle.job_decoder.specs.numbered_frames.FrameNumbers.{EndsAt, file_ending, film_output, start, text}
 use Rattle.job_decoder.specs.Pasts.{IsPast, film_with, frames_behind}
 use Rattle.job_decoder.specs.Reaches.{past_texts}
 use Rattle.job_decoder.specs.declared.past.Past.{Past}

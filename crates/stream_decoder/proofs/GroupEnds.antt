@@ -22,11 +22,11 @@ use Rattle.frame_groups.proofs.RateLemmas.{rate_again}
 use Rattle.frame_groups.specs.declared.group.Behind.{Behind}
 use Rattle.frame_groups.specs.declared.group.Behind.TheVariants.{More, End, Broken, Failed, OutOfMemory}
 use Rattle.frame_groups.specs.Groups.{CountsGroup, HasRateOf, IsGroup, TakesGroup, TellsGroupRate, frames_ahead}
-use Rattle.seq_decoder.specs.Outcomes.{Decodes, WritesFront}
-use Rattle.seq_decoder.specs.Outputs.{output_of}
-use Rattle.numbered_frames.proofs.Ways.{files_are_films}
-use Rattle.numbered_frames.specs.Films.{Film, GoesOn, film_of}
-use Rattle.numbered_frames.specs.FrameNumbers.{film_output}
+use Rattle.job_decoder.specs.seq_decoder.Outcomes.{Decodes, WritesFront}
+use Rattle.job_decoder.specs.seq_decoder.Outputs.{output_of}
+use Rattle.job_decoder.proofs.of_numbered_frames.Ways.{files_are_films}
+use Rattle.job_decoder.specs.numbered_frames.Films.{Film, GoesOn, film_of}
+use Rattle.job_decoder.specs.numbered_frames.FrameNumbers.{film_output}
 use Rattle.job_decoder.specs.Pasts.{IsPast, film_with, frames_behind}
 use Rattle.job_decoder.specs.Reaches.{IsStop, past_texts}
 use Rattle.job_decoder.specs.declared.past.Past.{Past}

@@ -16,8 +16,8 @@ use Rattle.job_decoder.specs.declared.group.Reached.{Reached}
 use Rattle.job_decoder.specs.declared.group.Reached.TheVariants as reached
 use Rattle.job_decoder.specs.declared.past.Past.{Past}
 use Rattle.job_decoder.specs.declared.whole.Decoded.{Decoded}
-use Rattle.seq_decoder.specs.Outcomes.{Decodes}
-use Rattle.numbered_frames.specs.FrameNumbers.{film_output}
+use Rattle.job_decoder.specs.seq_decoder.Outcomes.{Decodes}
+use Rattle.job_decoder.specs.numbered_frames.FrameNumbers.{film_output}
 use Rattle.stream_decoder.proofs.FilmLemmas.{none_texts}
 use Rattle.stream_decoder.proofs.GroupEnds.{IsIvf, TakesAll, had_no_memory, has_failed, is_broken, is_done, may_have_failed, stopped, takes_all}
 use Rattle.stream_decoder.specs.Code.{Begun, HasTaken, IsOnWay, MayGoOn, MayTell, MayTurn, OnWay, StopsInFrames, Turned, sink_of, source_in, turn_of}

@@ -11,8 +11,8 @@ use Rattle.vp9_types.specs.declared.rule.Rule.{Rule}
 use Rattle.frame_output.specs.declared.rendering.Format.{Format}
 use Rattle.file_frames.specs.Containers.{is_webm}
 use Rattle.frame_groups.proofs.Fronts.{all_is_front, front_tells}
-use Rattle.seq_decoder.specs.Outcomes.{Completes, Decodes, WritesFront}
-use Rattle.seq_decoder.specs.Outputs.{output_of}
+use Rattle.job_decoder.specs.seq_decoder.Outcomes.{Completes, Decodes, WritesFront}
+use Rattle.job_decoder.specs.seq_decoder.Outputs.{output_of}
 use Rattle.stream_decoder.specs.Streams.{DecodesSource, WritesAll}
 
 ---- What is left of the source alone ----

@@ -1,2 +1,3 @@
 pub mod Streams
 pub mod Code
+pub use Rattle.job_decoder.specs.seq_decoder as seq_decoder

@@ -9,8 +9,8 @@ use Rattle.vp9_types.specs.declared.rule.Rule.{Rule}
 use Rattle.frame_output.specs.declared.rendering.Format.{Format}
 use Rattle.file_frames.specs.Containers.{is_webm}
 use Rattle.file_frames.specs.FileFrames.{frames_in, frames_of_file}
-use Rattle.seq_decoder.specs.Outcomes.{WritesFront}
-use Rattle.seq_decoder.specs.Outputs.{output_of}
+use Rattle.job_decoder.specs.seq_decoder.Outcomes.{WritesFront}
+use Rattle.job_decoder.specs.seq_decoder.Outputs.{output_of}
 
 -- what is written of bytes ends so, and all of it is written
 abbrev pub WritesAll : Format → List ℕ → Option (List ℕ) → Option (List ℕ) → Option (ℕ × Rule) → Type 0

@@ -7,5 +7,7 @@ mod stream;
 mod streamed;
 mod whole;
 
+pub use job_decoder;
+pub use job_decoder::seq_decoder;
 pub use stream::decode_source;
 pub use streamed::Streamed;

@@ -2,11 +2,11 @@
 use Rattle.std.proofs.Common.{◌≡◌, subst}
 use Rattle.std.specs.Prelude.{Result}
 use Rattle.frame_headers.specs.declared.persist.Persist.{Persist}
-use Rattle.frame_state.specs.Sources.{FramePast}
-use Rattle.frame_writer.specs.Code.{GivesFrame}
-use Rattle.frame_writer.specs.FrameSymbols.{Speaker}
-use Rattle.frame_writer.specs.declared.written.NotWritten.{NotWritten}
-use Rattle.frame_writer.specs.declared.written.Written.{Written}
+use Rattle.seq_decoder.specs.frame_state.Sources.{FramePast}
+use Rattle.drawn_frames.specs.frame_writer.Code.{GivesFrame}
+use Rattle.drawn_frames.specs.frame_writer.FrameSymbols.{Speaker}
+use Rattle.drawn_frames.specs.frame_writer.declared.written.NotWritten.{NotWritten}
+use Rattle.drawn_frames.specs.frame_writer.declared.written.Written.{Written}
 use Rattle.prob_contexts.specs.ProbLists.{lists_of}
 use Rattle.prob_contexts.specs.declared.contexts.Contexts.{Contexts}
 use Rattle.seq_decoder.specs.After.{past_of}

@@ -11,23 +11,23 @@ use Rattle.frame_headers.specs.declared.header.Uncompressed.{Uncompressed}
 use Rattle.frame_headers.specs.declared.header.Uncompressed.TheVariants.{ShowExisting, Coded}
 use Rattle.frame_headers.specs.declared.persist.Persist.{Persist}
 use Rattle.prob_contexts.specs.ProbLists.{ContextLists, lists_of}
-use Rattle.frame_state.specs.FrameReading.{read_frame}
-use Rattle.frame_state.specs.Sources.{FramePast, FrameSources}
-use Rattle.frame_writer.specs.FrameBytes.{frame_bytes, with_size}
-use Rattle.frame_writer.specs.SaidFrames.{frame_told}
-use Rattle.frame_writer.specs.Code.{GivesFrame, IsFrame, IsLongHeader, IsTooLong, IsUntold, ReadsFrame, compressed_size, input_with, sources_with}
-use Rattle.frame_writer.specs.declared.frame.FrameToWrite.{FrameToWrite}
-use Rattle.frame_writer.specs.declared.written.NotWritten.{NotWritten}
-use Rattle.frame_writer.specs.declared.written.NotWritten.TheVariants.{Unsaid, TooLong, OutOfMemory}
-use Rattle.frame_writer.specs.declared.written.Written.{Written}
+use Rattle.seq_decoder.specs.frame_state.FrameReading.{read_frame}
+use Rattle.seq_decoder.specs.frame_state.Sources.{FramePast, FrameSources}
+use Rattle.drawn_frames.specs.frame_writer.FrameBytes.{frame_bytes, with_size}
+use Rattle.drawn_frames.specs.frame_writer.SaidFrames.{frame_told}
+use Rattle.drawn_frames.specs.frame_writer.Code.{GivesFrame, IsFrame, IsLongHeader, IsTooLong, IsUntold, ReadsFrame, compressed_size, input_with, sources_with}
+use Rattle.drawn_frames.specs.frame_writer.declared.frame.FrameToWrite.{FrameToWrite}
+use Rattle.drawn_frames.specs.frame_writer.declared.written.NotWritten.{NotWritten}
+use Rattle.drawn_frames.specs.frame_writer.declared.written.NotWritten.TheVariants.{Unsaid, TooLong, OutOfMemory}
+use Rattle.drawn_frames.specs.frame_writer.declared.written.Written.{Written}
 use Rattle.bool_lists.specs.BoolLists.{BoolList, bytes_taken}
 use Rattle.compressed_writer.specs.Spelling.{spelled_compressed}
-use Rattle.tile_writer.specs.declared.unwritten.Unwritten.TheVariants as unwritten
+use Rattle.drawn_frames.specs.tile_writer.declared.unwritten.Unwritten.TheVariants as unwritten
 use Rattle.drawn_frames.specs.SymbolDraws.{drawing}
 use Rattle.drawn_frames.specs.declared.symbols.DrawnSymbols.{DrawnSymbols}
 use Rattle.drawn_frames.specs.Code.{sized}
 use Rattle.drawn_frames.specs.ModeDraws.{draw_frame_modes}
-use Rattle.frame_decoder.proofs.PlainFrames.{frame_decodes}
+use Rattle.seq_decoder.proofs.of_frame_decoder.PlainFrames.{frame_decodes}
 use Rattle.seq_decoder.specs.After.{Stepped, after_coded, input_of, past_of, references_of, step}
 use Rattle.seq_decoder.specs.SavedContexts.{context_before, saved_before}
 use Rattle.seq_decoder.specs.DecoderState.{State, persist_of}

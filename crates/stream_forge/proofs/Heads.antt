@@ -18,9 +18,9 @@ use Rattle.seq_decoder.specs.DecoderState.{State, persist_of}
 use Rattle.seq_decoder.proofs.Slots.{coded_persists, shown_stays}
 use Rattle.stream_forge.specs.Code.{IsMadeAfter}
 use Rattle.stream_forge.specs.FileReads.{IsFrameOf}
-use Rattle.frame_writer.specs.FrameBytes.{header_bytes}
-use Rattle.frame_writer.specs.Code.{IsBytes}
-use Rattle.frame_writer.proofs.OneBytes.{header_are}
+use Rattle.drawn_frames.specs.frame_writer.FrameBytes.{header_bytes}
+use Rattle.drawn_frames.specs.frame_writer.Code.{IsBytes}
+use Rattle.drawn_frames.proofs.of_frame_writer.OneBytes.{header_are}
 
 shown_alone : (items old bytes : List ℕ) → items ≡ old ++ bytes → old ≡ [] → items ≡ bytes
 shown_alone items old bytes is none = is ∙ ap (λ l. l ++ bytes) none

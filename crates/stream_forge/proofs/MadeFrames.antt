@@ -14,15 +14,15 @@ use Rattle.frame_headers.specs.declared.header.Uncompressed.{Uncompressed}
 use Rattle.frame_headers.specs.declared.header.Uncompressed.TheVariants.{ShowExisting, Coded}
 use Rattle.frame_headers.specs.declared.persist.Persist.{Persist}
 use Rattle.header_writer.specs.declared.choices.Choices.{Choices}
-use Rattle.frame_state.specs.FrameReading.{FrameRead, TileRead}
-use Rattle.frame_state.specs.Sources.{FrameSources}
-use Rattle.frame_state.specs.TilePlaces.{column_of}
-use Rattle.tile_writer.specs.SaidTiles.{Said, SaidSoFar}
-use Rattle.tile_writer.specs.declared.unwritten.Unwritten.{Unwritten}
-use Rattle.frame_writer.specs.FrameBytes.{bytes_of, bytes_of_bits, compressed_bools, frame_bytes, header_bytes, joined_tiles, padded, tile_with_size, without_index}
-use Rattle.frame_writer.specs.Code.{IsLong, IsLongTile, IsTooLong}
-use Rattle.frame_writer.specs.SaidFrames.{FrameTold, frame_told, nth_syntax, nth_tile_told, nth_told, said_of, tiles_told, told_so_far, with_tile_said}
-use Rattle.frame_writer.specs.FrameSymbols.{Speaker}
+use Rattle.seq_decoder.specs.frame_state.FrameReading.{FrameRead, TileRead}
+use Rattle.seq_decoder.specs.frame_state.Sources.{FrameSources}
+use Rattle.seq_decoder.specs.frame_state.TilePlaces.{column_of}
+use Rattle.drawn_frames.specs.tile_writer.SaidTiles.{Said, SaidSoFar}
+use Rattle.drawn_frames.specs.tile_writer.declared.unwritten.Unwritten.{Unwritten}
+use Rattle.drawn_frames.specs.frame_writer.FrameBytes.{bytes_of, bytes_of_bits, compressed_bools, frame_bytes, header_bytes, joined_tiles, padded, tile_with_size, without_index}
+use Rattle.drawn_frames.specs.frame_writer.Code.{IsLong, IsLongTile, IsTooLong}
+use Rattle.drawn_frames.specs.frame_writer.SaidFrames.{FrameTold, frame_told, nth_syntax, nth_tile_told, nth_told, said_of, tiles_told, told_so_far, with_tile_said}
+use Rattle.drawn_frames.specs.frame_writer.FrameSymbols.{Speaker}
 use Rattle.drawn_frames.specs.SymbolDraws.{drawing}
 use Rattle.drawn_frames.specs.declared.symbols.DrawnSymbols.{DrawnSymbols}
 use Rattle.container_writer.specs.Files.{file_header}

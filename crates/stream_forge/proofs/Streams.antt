@@ -7,11 +7,11 @@ use Rattle.frame_headers.specs.declared.header.Uncompressed.{Uncompressed}
 use Rattle.header_writer.specs.declared.choices.Choices.{Choices}
 use Rattle.container_writer.specs.Files.{file_header, packet_of}
 use Rattle.ivf_container.specs.Packets.{written_bytes}
-use Rattle.drawn_symbols.specs.declared.draws.Draws.{Draws}
+use Rattle.drawn_frames.specs.drawn_symbols.declared.draws.Draws.{Draws}
 use Rattle.drawn_frames.specs.MadeFrames as headers
-use Rattle.frame_writer.specs.declared.written.NotWritten.{NotWritten}
-use Rattle.frame_writer.specs.declared.written.NotWritten.TheVariants.{Unsaid, TooLong, OutOfMemory}
-use Rattle.frame_writer.specs.declared.written.Written.{Written}
+use Rattle.drawn_frames.specs.frame_writer.declared.written.NotWritten.{NotWritten}
+use Rattle.drawn_frames.specs.frame_writer.declared.written.NotWritten.TheVariants.{Unsaid, TooLong, OutOfMemory}
+use Rattle.drawn_frames.specs.frame_writer.declared.written.Written.{Written}
 use Rattle.seq_decoder.specs.Code.{StandsFor}
 use Rattle.seq_decoder.specs.DecoderState.{State, start_state}
 use Rattle.seq_decoder.specs.declared.decoder.Decoder.{Decoder}

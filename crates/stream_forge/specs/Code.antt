@@ -10,15 +10,15 @@ use Rattle.frame_headers.specs.declared.header.Uncompressed.TheVariants.{ShowExi
 use Rattle.frame_headers.specs.declared.persist.Persist.{Persist}
 use Rattle.block_plan.specs.SegmentMaps.{id_map}
 use Rattle.block_plan.specs.declared.segment_map.SegmentMap.{SegmentMap}
-use Rattle.frame_writer.specs.Code.{GivesFrame}
-use Rattle.frame_writer.specs.FrameSymbols.{Speaker}
-use Rattle.frame_writer.specs.declared.frame.FrameToWrite.{FrameToWrite}
-use Rattle.frame_writer.specs.declared.written.NotWritten.{NotWritten}
-use Rattle.frame_writer.specs.declared.written.NotWritten.TheVariants.{Unsaid, TooLong, OutOfMemory}
-use Rattle.frame_writer.specs.declared.written.Written.{Written}
+use Rattle.drawn_frames.specs.frame_writer.Code.{GivesFrame}
+use Rattle.drawn_frames.specs.frame_writer.FrameSymbols.{Speaker}
+use Rattle.drawn_frames.specs.frame_writer.declared.frame.FrameToWrite.{FrameToWrite}
+use Rattle.drawn_frames.specs.frame_writer.declared.written.NotWritten.{NotWritten}
+use Rattle.drawn_frames.specs.frame_writer.declared.written.NotWritten.TheVariants.{Unsaid, TooLong, OutOfMemory}
+use Rattle.drawn_frames.specs.frame_writer.declared.written.Written.{Written}
 use Rattle.header_writer.specs.declared.choices.Choices.{Choices}
 use Rattle.drawn_frames.specs.MadeFrames as headers
-use Rattle.drawn_symbols.specs.declared.draws.Draws.{Draws}
+use Rattle.drawn_frames.specs.drawn_symbols.declared.draws.Draws.{Draws}
 use Rattle.prob_contexts.specs.ProbLists.{lists_of}
 use Rattle.prob_contexts.specs.declared.contexts.Contexts.{Contexts}
 use Rattle.seq_decoder.specs.After.{Stepped, has_size, past_of, segments_before, step}

@@ -8,12 +8,12 @@ use Rattle.frame_headers.specs.declared.header.Uncompressed.{Uncompressed}
 use Rattle.frame_headers.specs.declared.header.Uncompressed.TheVariants.{ShowExisting, Coded}
 use Rattle.container_writer.specs.Files.{file_header}
 use Rattle.header_writer.specs.declared.choices.Choices.{Choices}
-use Rattle.frame_state.specs.FrameReading.{read_frame, FrameRead}
+use Rattle.seq_decoder.specs.frame_state.FrameReading.{read_frame, FrameRead}
 use Rattle.bool_lists.specs.BoolLists.{BoolList, bytes_taken}
-use Rattle.tile_writer.specs.declared.unwritten.Unwritten.{Unwritten}
-use Rattle.frame_writer.specs.FrameBytes.{frame_bytes, header_bytes}
-use Rattle.frame_writer.specs.Code.{IsTooLong}
-use Rattle.frame_writer.specs.SaidFrames.{said_of, told_so_far}
+use Rattle.drawn_frames.specs.tile_writer.declared.unwritten.Unwritten.{Unwritten}
+use Rattle.drawn_frames.specs.frame_writer.FrameBytes.{frame_bytes, header_bytes}
+use Rattle.drawn_frames.specs.frame_writer.Code.{IsTooLong}
+use Rattle.drawn_frames.specs.frame_writer.SaidFrames.{said_of, told_so_far}
 use Rattle.drawn_frames.specs.SymbolDraws.{drawing}
 use Rattle.seq_decoder.specs.After.{Stepped, input_of, step}
 use Rattle.seq_decoder.specs.DecoderState.{State, persist_of, start_state}

@@ -1,3 +1,4 @@
 pub mod MadeFiles
 pub mod FileReads
 pub mod Code
+pub use Rattle.seq_decoder.specs as seq_decoder

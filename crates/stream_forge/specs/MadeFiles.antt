@@ -9,12 +9,12 @@ use Rattle.frame_headers.specs.declared.header.Uncompressed.TheVariants.{ShowExi
 use Rattle.container_writer.specs.Files.{file_header, packet_of}
 use Rattle.header_writer.specs.declared.choices.Choices.{Choices}
 use Rattle.ivf_container.specs.Packets.{written_bytes}
-use Rattle.frame_state.specs.Sources.{FrameSources}
+use Rattle.seq_decoder.specs.frame_state.Sources.{FrameSources}
 use Rattle.bool_lists.specs.BoolLists.{BoolList, bytes_taken}
 use Rattle.compressed_writer.specs.Spelling.{spelled_compressed}
-use Rattle.tile_writer.specs.declared.unwritten.Unwritten.{Unwritten}
-use Rattle.frame_writer.specs.FrameBytes.{frame_bytes, header_bytes, with_size}
-use Rattle.frame_writer.specs.SaidFrames.{FrameTold, frame_told}
+use Rattle.drawn_frames.specs.tile_writer.declared.unwritten.Unwritten.{Unwritten}
+use Rattle.drawn_frames.specs.frame_writer.FrameBytes.{frame_bytes, header_bytes, with_size}
+use Rattle.drawn_frames.specs.frame_writer.SaidFrames.{FrameTold, frame_told}
 use Rattle.drawn_frames.specs.Heads.{draw_head}
 use Rattle.drawn_frames.specs.ModeDraws.{draw_frame_modes}
 use Rattle.drawn_frames.specs.declared.heads.DrawnHead.{DrawnHead}

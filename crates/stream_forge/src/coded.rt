@@ -9,10 +9,10 @@ ghost use Rattle.seq_decoder.specs.DecoderState.{State};
 ghost use Rattle.stream_forge.specs.Code.{GivesBehind};
 
 use crate::past::{fresh_segments, segments_for};
+use drawn_frames::frame_writer::{FrameSymbols, FrameToWrite, NotWritten, Written, write_frame};
 use frame_headers::Header;
-use frame_state::FramePast;
-use frame_writer::{FrameSymbols, FrameToWrite, NotWritten, Written, write_frame};
 use header_writer::Choices;
+use seq_decoder::frame_state::FramePast;
 use seq_decoder::{Decoder, saved_place, vectors_before};
 use std::alloc::Global;
 use vp9_types::Modes;

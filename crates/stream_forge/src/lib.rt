@@ -9,4 +9,5 @@ mod past;
 mod stream;
 
 pub use coded::{CodedFrame, write_coded};
+pub use seq_decoder;
 pub use stream::{NotMade, make_stream};

@@ -13,10 +13,10 @@ ghost use Rattle.stream_forge.specs.declared.stream.NotMade.TheVariants as not_m
 use crate::discard::Discard;
 use crate::frames::write_next;
 use container_writer::{write_header, write_packet};
-use drawn_symbols::Draws;
+use drawn_frames::drawn_symbols::Draws;
+use drawn_frames::frame_writer::NotWritten;
 use file_frames::FileFrame;
 use frame_output::Format;
-use frame_writer::NotWritten;
 use seq_decoder::Decoder;
 use std::alloc::{AllocError, Global};
 use vp9_types::Outcome;

@@ -3,17 +3,17 @@
 ghost use Rattle.std.specs.Prelude.{◌≡◌, ◌≤◌, length, IsOk};
 ghost use Rattle.frame_headers.specs.Spans.{tile_spans};
 ghost use Rattle.frame_headers.specs.Tiles.{AreFewTiles};
-ghost use Rattle.frame_state.specs.Past.{IsPastOf};
+ghost use Rattle.tile_syntax.specs.frame_state.Past.{IsPastOf};
 
 use crate::listed_frames_tests::Row;
 use crate::listed_frames_tests::rows::ROWS;
 use block_plan::SegmentMap;
 use frame_headers::{FrameHead, Persist, read};
 use frame_setting::FrameSetting;
-use frame_state::{FramePast, FrameSources, begin_frame};
 use prob_contexts::{Contexts, default_contexts};
 use std::alloc::Global;
 use std::test::Fail;
+use tile_syntax::frame_state::{FramePast, FrameSources, begin_frame};
 use tile_syntax::{ColumnPlan, Unplanned, column};
 use vp9_types::Span;
 

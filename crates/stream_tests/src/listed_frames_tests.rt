@@ -1,7 +1,7 @@
 //! Worked files come out of the writer, byte for byte.
 
 ghost use Rattle.std.specs.Prelude.{◌≡◌, None, Ok};
-ghost use Rattle.seq_decoder.specs.Code.{MayDecode};
+ghost use Rattle.listed_frames.specs.seq_decoder.Code.{MayDecode};
 
 pub mod rows;
 mod rows_of_vectors;
@@ -11,18 +11,18 @@ use edge_io::MemSink;
 use file_frames::FileFrame;
 use frame_headers::{FrameHead, Header, read};
 use frame_output::Format;
-use frame_writer::Written;
 use header_writer::Choices;
 use inter_modes::{BlockStart, SegmentOf};
-use inter_writer::{BlockSymbols, PredictionSymbols};
+use listed_frames::frame_writer::Written;
+use listed_frames::inter_writer::{BlockSymbols, PredictionSymbols};
+use listed_frames::listed_symbols::{ListedBlock, ListedLevels, ListedSymbols};
+use listed_frames::seq_decoder::Decoder;
+use listed_frames::stream_forge::CodedFrame;
 use listed_frames::write_listed;
-use listed_symbols::{ListedBlock, ListedLevels, ListedSymbols};
 use rows::ROWS;
 use rows_of_vectors::ROWS_OF_VECTORS;
-use seq_decoder::Decoder;
 use std::alloc::{AllocError, Global};
 use std::test::Fail;
-use stream_forge::CodedFrame;
 use vector_writer::InterSymbols;
 use vp9_types::{
     InterMode, InterpFilter, IntraMode, Modes, Outcome, Partition, ReferenceFrame, ReferenceMode,

@@ -6,16 +6,16 @@ use frame_headers::{
     LoopFilter, Quantizer, Segmentation, TileInfo,
 };
 use frame_setting::FrameSetting;
-use frame_state::{FramePast, FrameSources};
-use frame_writer::FrameSymbols;
 use inter_modes::{BlockStart, SegmentOf};
-use inter_writer::{BlockSymbols, PredictionSymbols};
-use listed_symbols::{ListedBlock, ListedLevels, ListedSymbols};
+use listed_frames::frame_writer::FrameSymbols;
+use listed_frames::inter_writer::{BlockSymbols, PredictionSymbols};
+use listed_frames::listed_symbols::{ListedBlock, ListedLevels, ListedSymbols};
+use listed_frames::residue_writer::{BlockLevels, PlaneLevels};
 use prob_contexts::default_contexts;
-use residue_writer::{BlockLevels, PlaneLevels};
 use std::alloc::{AllocError, Global};
 use std::process::Abort;
 use std::test::Fail;
+use tile_syntax::frame_state::{FramePast, FrameSources};
 use vp9_types::{BlockSize, IntraMode, Modes, Partition, ReferenceMode, TxMode, TxSize};
 
 /// A lossless key frame of 8x8.

@@ -1,9 +1,9 @@
 //! Files that were made by another decoder's generator from the same rule: their digests.
 
+use listed_frames::stream_forge::make_stream;
 use md5::{Digest, Md5};
 use std::alloc::Global;
 use std::test::Fail;
-use stream_forge::make_stream;
 
 /// Whether the file of so many frames has a digest.
 fn is_made(alloc: Global, number: u32, frames: u32, digest: [u8; 16]) -> bool {

@@ -7,16 +7,16 @@ use Rattle.vp9_types.specs.declared.outcome.Stop.{Stop}
 use Rattle.vp9_types.specs.declared.rule.Rule.{Rule}
 use Rattle.file_frames.specs.Code.{Ahead, IsOnWay, all_ahead}
 use Rattle.file_frames.proofs.Walks.{sets_out, goes_by, ends_at, arrives, breaks}
-use Rattle.frame_decoder.specs.DecodedFrames.{FrameResult}
+use Rattle.job_decoder.specs.frame_decoder.DecodedFrames.{FrameResult}
 use Rattle.frame_headers.specs.Header.{head_of}
 use Rattle.frame_headers.specs.HeaderState.{next_persist, start_persist}
 use Rattle.frame_headers.specs.declared.header.FrameHead.TheVariants as head
 use Rattle.frame_headers.specs.declared.header.Header.{Header}
 use Rattle.frame_headers.specs.declared.persist.Persist.{Persist}
-use Rattle.seq_decoder.specs.After.{Stepped, after_coded, decoded_in, step}
-use Rattle.seq_decoder.specs.Runs.{added_picture, decoding, run_of, shown_list}
-use Rattle.seq_decoder.specs.DecoderState.{Picture, State, persist_of, start_state}
-use Rattle.seq_decoder.proofs.Slots.{coded_persists, shown_stays, start_persists, step_is}
+use Rattle.job_decoder.specs.seq_decoder.After.{Stepped, after_coded, decoded_in, step}
+use Rattle.job_decoder.specs.seq_decoder.Runs.{added_picture, decoding, run_of, shown_list}
+use Rattle.job_decoder.specs.seq_decoder.DecoderState.{Picture, State, persist_of, start_state}
+use Rattle.job_decoder.proofs.of_seq_decoder.Slots.{coded_persists, shown_stays, start_persists, step_is}
 use Rattle.stream_trial.specs.Code.{IsCounted}
 use Rattle.stream_trial.specs.TrialLines.{shown_count}
 use Rattle.stream_trial.proofs.Shows.{slot_shows_one}

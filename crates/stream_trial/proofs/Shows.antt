@@ -18,9 +18,9 @@ use Rattle.frame_headers.specs.declared.persist.Persist.{Persist}
 use Rattle.frame_headers.specs.Fields.{past, f, flag_field}
 use Rattle.frame_headers.specs.Header.{frame_profile, coded_frame, uncompressed_header, placed, placed_if_read, head_of}
 use Rattle.frame_headers.specs.References.{held_by, slot_shape}
-use Rattle.seq_decoder.specs.Runs.{shown_list}
-use Rattle.seq_decoder.specs.DecoderState as state
-use Rattle.seq_decoder.specs.DecoderState.{Picture, State, persist_of}
+use Rattle.job_decoder.specs.seq_decoder.Runs.{shown_list}
+use Rattle.job_decoder.specs.seq_decoder.DecoderState as state
+use Rattle.job_decoder.specs.seq_decoder.DecoderState.{Picture, State, persist_of}
 
 ---- What a syntax settles on, whatever is answered ----
 

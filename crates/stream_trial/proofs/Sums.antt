@@ -8,11 +8,11 @@ use Rattle.file_frames.specs.FileFrames.{frames_in, frames_of_file}
 use Rattle.file_frames.specs.Containers.{rate_of_file}
 use Rattle.file_frames.specs.Walks.{Walked}
 use Rattle.frame_output.specs.declared.rendering.Format.TheVariants.{Raw}
-use Rattle.seq_decoder.specs.Outcomes.{Decodes}
-use Rattle.seq_decoder.specs.Outputs.{form_from, output_of}
-use Rattle.seq_decoder.specs.Runs.{picture_text, run_of}
-use Rattle.seq_decoder.specs.DecoderState.{start_state}
-use Rattle.seq_decoder.proofs.OutputLemmas.{output_follows}
+use Rattle.job_decoder.specs.seq_decoder.Outcomes.{Decodes}
+use Rattle.job_decoder.specs.seq_decoder.Outputs.{form_from, output_of}
+use Rattle.job_decoder.specs.seq_decoder.Runs.{picture_text, run_of}
+use Rattle.job_decoder.specs.seq_decoder.DecoderState.{start_state}
+use Rattle.job_decoder.proofs.of_seq_decoder.OutputLemmas.{output_follows}
 use Rattle.stream_forge.specs.MadeFiles.{made}
 use Rattle.stream_trial.specs.declared.trial.NoLine.{NoLine}
 use Rattle.stream_trial.specs.declared.trial.NoLine.TheVariants.{Broken, OutOfMemory}

@@ -5,9 +5,9 @@ use Rattle.vp9_types.specs.declared.outcome.Outcome.TheVariants as outcome
 use Rattle.vp9_types.specs.declared.rule.Rule.{Rule}
 use Rattle.file_frames.specs.Walks.{Walked}
 use Rattle.frame_headers.specs.declared.persist.Persist.{Persist}
-use Rattle.seq_decoder.specs.After.{Stepped, step}
-use Rattle.seq_decoder.specs.Runs.{shown_list}
-use Rattle.seq_decoder.specs.DecoderState.{State, persist_of}
+use Rattle.job_decoder.specs.seq_decoder.After.{Stepped, step}
+use Rattle.job_decoder.specs.seq_decoder.Runs.{shown_list}
+use Rattle.job_decoder.specs.seq_decoder.DecoderState.{State, persist_of}
 use Rattle.stream_trial.specs.declared.trial.NoLine.{NoLine}
 use Rattle.stream_trial.specs.declared.trial.NoLine.TheVariants.{Broken, OutOfMemory}
 use Rattle.stream_trial.specs.declared.trial.Sum.{Sum}

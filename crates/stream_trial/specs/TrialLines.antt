@@ -2,7 +2,7 @@
 use Rattle.std.specs.Prelude.{ℕ, ◌+◌, ◌*◌, ◌%◌, ◌^◌, List, [], ◌∷◌, ◌++◌, length, codes, decimal}
 use Rattle.std.specs.Int.{to_be_bytes, w64}
 use Rattle.hex.specs.Hex.{encode_lower}
-use Rattle.seq_decoder.specs.Runs.{run_of}
+use Rattle.job_decoder.specs.seq_decoder.Runs.{run_of}
 
 -- the sum behind one more byte, modulo 2 ^ 64
 abbrev pub sum_with : ℕ → ℕ → ℕ

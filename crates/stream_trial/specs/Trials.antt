@@ -3,7 +3,7 @@ use Rattle.std.specs.Prelude.{◌≡◌, ℕ, List, Option, Some, None}
 use Rattle.vp9_types.specs.declared.outcome.Stop.{Stop}
 use Rattle.vp9_types.specs.declared.rule.Rule.{Rule}
 use Rattle.frame_output.specs.declared.rendering.Format.TheVariants.{Raw}
-use Rattle.seq_decoder.specs.Outputs.{output_of}
+use Rattle.job_decoder.specs.seq_decoder.Outputs.{output_of}
 use Rattle.stream_forge.specs.MadeFiles.{made}
 use Rattle.stream_trial.specs.TrialLines.{shown_count, trial_line}
 

@@ -1,7 +1,7 @@
 //! How many frames a file shows, by the headers of its frames.
 
 ghost use Rattle.std.specs.Prelude.{◌≡◌, ◌≤◌, None};
-ghost use Rattle.seq_decoder.specs.Runs.{run_of};
+ghost use Rattle.job_decoder.specs.seq_decoder.Runs.{run_of};
 ghost use Rattle.stream_trial.specs.Code.{IsCounted};
 ghost use Rattle.stream_trial.specs.TrialLines.{shown_count};
 

@@ -7,4 +7,5 @@ mod sink;
 mod sum;
 mod trial;
 
+pub use stream_forge;
 pub use trial::{NoLine, trial_line};

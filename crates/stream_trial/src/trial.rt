@@ -2,7 +2,7 @@
 
 ghost use Rattle.std.specs.Prelude.{◌≡◌, IfOk, IfErr, string_bytes};
 ghost use Rattle.frame_output.specs.declared.rendering.Format.TheVariants.{Raw};
-ghost use Rattle.seq_decoder.specs.Outputs.{output_of};
+ghost use Rattle.job_decoder.specs.seq_decoder.Outputs.{output_of};
 ghost use Rattle.stream_trial.specs.Code.{HasNoLine, IsNoFault, Sums, Tells};
 ghost use Rattle.stream_trial.specs.Trials.{IsTrialLine};
 ghost use Rattle.stream_trial.specs.declared.trial.NoLine.TheVariants as no_line;
@@ -13,8 +13,8 @@ use crate::sink::Kept;
 use crate::sum::sum_of;
 use edge_io::Gate;
 use frame_output::Format;
+use job_decoder::seq_decoder::decode_plain;
 use job_decoder::{Crew, decode_by_jobs};
-use seq_decoder::decode_plain;
 use std::alloc::{AllocError, Global};
 use std::sync::Wait;
 use std::thread::Threads;

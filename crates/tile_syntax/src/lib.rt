@@ -6,5 +6,6 @@ mod planning;
 mod plans;
 mod tiles;
 
+pub use frame_state;
 pub use laws::plans_read_what_tiles_say;
 pub use plans::{ColumnPlan, Unplanned, column};

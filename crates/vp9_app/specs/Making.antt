@@ -2,7 +2,7 @@
 use Rattle.std.specs.Prelude.{◌≡◌, ◌⊎◌, ℕ, take, None}
 use Rattle.edge_io.specs.Putting.{Takes}
 use Rattle.command_words.specs.declared.command.MadeStream.{MadeStream}
-use Rattle.stream_forge.specs.MadeFiles.{made}
+use Rattle.stream_trial.specs.stream_forge.MadeFiles.{made}
 use Rattle.stream_trial.specs.Trials.{BreaksAt, MadeEnds, made_line}
 use Rattle.vp9_app.specs.declared.status.Status.{Status}
 use Rattle.vp9_app.specs.declared.status.Status.TheVariants as status

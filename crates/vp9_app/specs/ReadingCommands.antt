@@ -5,7 +5,7 @@ use Rattle.edge_io.specs.Filling.{WhereTold}
 use Rattle.edge_io.specs.Putting.{Takes}
 use Rattle.edge_io.specs.SourceReading.{Gave}
 use Rattle.command_words.specs.declared.command.DecodeOptions.{DecodeOptions}
-use Rattle.seq_decoder.specs.Outputs.{output_of}
+use Rattle.stream_decoder.specs.seq_decoder.Outputs.{output_of}
 use Rattle.stream_decoder.specs.Streams.{MayHaveFailed, WritesTaken}
 use Rattle.vp9_app.specs.declared.status.Status.{Status}
 use Rattle.vp9_app.specs.declared.status.Status.TheVariants as status

@@ -12,13 +12,13 @@ use crate::note::report;
 use crate::status::{Status, listing_status};
 use command_words::{Command, DecodeOptions, MadeStream, read_words};
 use edge_io::{Gate, PutFault, ReadError, Sink, Source, put_all, read_all};
-use job_decoder::Crew;
-use seq_decoder::decode_plain;
 use std::alloc::Global;
 use std::sync::Wait;
 use std::thread::Threads;
+use stream_decoder::job_decoder::Crew;
+use stream_decoder::seq_decoder::decode_plain;
 use stream_decoder::{Streamed, decode_source};
-use stream_forge::{NotMade, make_stream};
+use stream_trial::stream_forge::{NotMade, make_stream};
 use stream_trial::{NoLine, trial_line};
 
 /// What is left of a run: how it ended, and the objects that it was given.

@@ -2,7 +2,7 @@ use Rattle.std.proofs.Common.{◌∙◌, ap, sym, subst, refl}
 use Rattle.std.specs.Prelude.{Some}
 use Rattle.std.specs.Arc.{arc_value}
 use Rattle.std.proofs.lemmas.Result.{err_from_is_err_and}
-use Rattle.frame_decoder.proofs.PlainFrames.{frame_breaks}
+use Rattle.seq_decoder.proofs.of_frame_decoder.PlainFrames.{frame_breaks}
 use Rattle.seq_decoder.specs.After.{input_of, past_of, references_of, segments_before, vectors_before}
 use Rattle.frame_headers.specs.FrameSizes.{IsFrameSize}
 use Rattle.frame_headers.specs.Tiles.{AreFewTiles}

@@ -1,11 +1,11 @@
 use Rattle.std.proofs.Common.{◌≡◌, ap, refl, subst, List, ℕ}
 use Rattle.std.specs.Prelude.{◌↔◌, Contains, Result, Ok, Err}
 use Rattle.std.proofs.lemmas.Result.{err_from_is_err_and}
-use Rattle.frame_decoder.specs.declared.decoding.Decoded.{Decoded}
-use Rattle.frame_state.specs.declared.halt.Halt.{Halt}
-use Rattle.frame_state.specs.declared.halt.Halt.TheVariants as halt
-use Rattle.tile_syntax.specs.declared.plans.Unplanned.{Unplanned}
-use Rattle.tile_syntax.specs.declared.plans.Unplanned.TheVariants as unplanned
+use Rattle.seq_decoder.specs.frame_decoder.declared.decoding.Decoded.{Decoded}
+use Rattle.seq_decoder.specs.frame_state.declared.halt.Halt.{Halt}
+use Rattle.seq_decoder.specs.frame_state.declared.halt.Halt.TheVariants as halt
+use Rattle.recon_rows.specs.tile_syntax.declared.plans.Unplanned.{Unplanned}
+use Rattle.recon_rows.specs.tile_syntax.declared.plans.Unplanned.TheVariants as unplanned
 use Rattle.frame_close.specs.Code.{lent}
 use Rattle.frame_steps.proofs.Joined.{JoinsAll, decoded_is, gives_halt, joins_it}
 use Rattle.frame_steps.proofs.closing.close.Goals as goal

@@ -1,5 +1,5 @@
 use Rattle.std.proofs.Common.{◌≡◌, ◌+◌, length, take}
-use Rattle.column_order.specs.ColumnStrips.{column_from}
+use Rattle.recon_rows.specs.column_order.ColumnStrips.{column_from}
 use Rattle.frame_steps.proofs.copying.copied_column.Given as goal
 
 abbrev pub invariant-loop-block : goal.invariant-loop-block

@@ -3,8 +3,8 @@ use Rattle.std.specs.Prelude.{Some}
 use Rattle.block_geometry.specs.FrameShapes.{places_of}
 use Rattle.frame_headers.proofs.SlotLemmas.{refreshed_told}
 use Rattle.frame_headers.specs.HeaderState.{next_persist, refreshed, shape_of, is_key}
-use Rattle.frame_state.specs.KeptColumns.{blocks_of}
-use Rattle.frame_state.specs.FrameReading.{FrameInput, all_blocks}
+use Rattle.seq_decoder.specs.frame_state.KeptColumns.{blocks_of}
+use Rattle.seq_decoder.specs.frame_state.FrameReading.{FrameInput, all_blocks}
 use Rattle.inter_modes.specs.LeftSegments.{segments_after}
 use Rattle.prob_contexts.specs.ProbLists.{lists_of}
 use Rattle.seq_decoder.specs.After.{picture_of, segments_before}

@@ -1,6 +1,6 @@
 use Rattle.std.proofs.Common.{◌∙◌, ◌+◌, ◌-◌, ◌*◌, arith}
 use Rattle.vp9_types.specs.Sizes.{superblocks_along}
-use Rattle.column_order.specs.ColumnStrips.{column_from}
+use Rattle.recon_rows.specs.column_order.ColumnStrips.{column_from}
 use Rattle.frame_steps.proofs.ColumnSpans.{areas_of, begins_inside, column_begins, column_stops, few_columns, stops_behind}
 use Rattle.frame_steps.proofs.Copies.{first_tile}
 use Rattle.frame_steps.proofs.strips.put_strip.Goals as goal

@@ -1,6 +1,6 @@
 use Rattle.std.proofs.Common.{All, length}
 use Rattle.job_crew.specs.Left.{HasRightResults}
-use Rattle.job_results.specs.Groups.{group_truth}
+use Rattle.job_rows.specs.job_results.Groups.{group_truth}
 use Rattle.job_decoder.specs.Pasts.{IsKept}
 use Rattle.job_decoder.proofs.kept.keep_left.Given as goal
 

@@ -1,6 +1,6 @@
 use Rattle.std.proofs.Common.{All, length}
 use Rattle.job_crew.specs.Left.{HasRightResults}
-use Rattle.job_results.specs.Meaning.{decode_truth}
+use Rattle.job_rows.specs.job_results.Meaning.{decode_truth}
 use Rattle.job_decoder.specs.Pasts.{IsKept}
 use Rattle.job_decoder.proofs.kept.keep_named.Given as goal
 

@@ -2,8 +2,8 @@ use Rattle.std.proofs.Common.{◌≡◌, ◌∙◌, ◌<◌, arith, ap, length, 
 use Rattle.std.specs.Prelude.{IfSome, Option, Some, slice_set}
 use Rattle.std.proofs.lemmas.List.{length-set}
 use Rattle.job_crew.proofs.RowsLeft.{one_more_row}
-use Rattle.job_results.specs.Meaning.{decode_truth}
-use Rattle.job_results.specs.declared.result.JobResult.{JobResult}
+use Rattle.job_rows.specs.job_results.Meaning.{decode_truth}
+use Rattle.job_rows.specs.job_results.declared.result.JobResult.{JobResult}
 use Rattle.job_decoder.proofs.RowsTaken.{right_taken, right_without}
 use Rattle.job_decoder.proofs.kept.lasting_rows.Goals as goal
 

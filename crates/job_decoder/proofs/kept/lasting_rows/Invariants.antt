@@ -1,6 +1,6 @@
 use Rattle.std.proofs.Common.{◌≡◌, length}
 use Rattle.job_crew.specs.Left.{AreRightRows}
-use Rattle.job_results.specs.Meaning.{decode_truth}
+use Rattle.job_rows.specs.job_results.Meaning.{decode_truth}
 use Rattle.job_decoder.proofs.kept.lasting_rows.Given as goal
 
 abbrev pub invariant-loop-row : goal.invariant-loop-row

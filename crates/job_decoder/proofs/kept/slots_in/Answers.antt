@@ -1,9 +1,9 @@
 use Rattle.std.proofs.Common.{ap, refl, inr, subst}
 use Rattle.std.specs.Prelude.{IfSome, Option}
 use Rattle.vp9_types.specs.declared.job.JobName.TheVariants.{Close}
-use Rattle.job_results.specs.Meaning.{builds, shown_as}
-use Rattle.job_results.specs.JobResults.{IsRight}
-use Rattle.job_results.specs.declared.result.JobResult.{JobResult}
+use Rattle.job_rows.specs.job_results.Meaning.{builds, shown_as}
+use Rattle.job_rows.specs.job_results.JobResults.{IsRight}
+use Rattle.job_rows.specs.job_results.declared.result.JobResult.{JobResult}
 use Rattle.job_decoder.proofs.kept.slots_in.Goals as goal
 
 pub returns-in-Closed : goal.returns-in-Closed

@@ -1,4 +1,4 @@
-use Rattle.numbered_frames.specs.Films.{film_of}
+use Rattle.job_rows.specs.numbered_frames.Films.{film_of}
 use Rattle.job_decoder.proofs.Ends.{decodes_file, decodes_so}
 use Rattle.job_decoder.proofs.whole.decode_as.Goals as goal
 

@@ -1,4 +1,4 @@
-use Rattle.numbered_frames.specs.Films.{film_of}
+use Rattle.job_rows.specs.numbered_frames.Films.{film_of}
 use Rattle.job_decoder.proofs.whole.decode_by_jobs.Given as goal
 
 abbrev pub ghosts-decode_as : goal.ghosts-decode_as

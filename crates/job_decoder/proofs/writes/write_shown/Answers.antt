@@ -1,6 +1,6 @@
 use Rattle.std.proofs.Common.{refl}
 use Rattle.std.proofs.lemmas.Result.{err_from_is_err_and}
-use Rattle.seq_decoder.proofs.ShowingLemmas.{render_shows}
+use Rattle.job_rows.proofs.of_seq_decoder.ShowingLemmas.{render_shows}
 use Rattle.job_decoder.proofs.Shown.{none_put, rows_asked, small_sample, text_by}
 use Rattle.job_decoder.proofs.writes.write_shown.Goals as goal
 

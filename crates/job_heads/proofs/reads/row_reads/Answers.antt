@@ -1,7 +1,7 @@
 use Rattle.std.proofs.Common.{◌∙◌, List, map, length, ap, sym, subst, arith}
 use Rattle.std.specs.Prelude.{Ok}
 use Rattle.band_needs.specs.declared.ranges.BandNeeds.{BandNeeds}
-use Rattle.frame_steps.specs.StepResults.{IsColumn}
+use Rattle.job_results.specs.frame_steps.StepResults.{IsColumn}
 use Rattle.job_results.specs.RowReads.{spans_by}
 use Rattle.job_heads.specs.Reads.{AreColumnReads, AreFirstReads}
 use Rattle.job_heads.proofs.RowsRead.{none_read, one_read, pushed_many}

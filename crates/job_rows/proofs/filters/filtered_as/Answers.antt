@@ -3,7 +3,7 @@ use Rattle.frame_headers.specs.HeaderState.{shape_of}
 use Rattle.frame_headers.specs.declared.header.Header.{Header}
 use Rattle.job_rows.specs.LentRows.{OfFrame}
 use Rattle.loop_edges.specs.Cells.{setting_of}
-use Rattle.numbered_frames.specs.FrameNumbers.{before, frame_at}
+use Rattle.job_results.specs.numbered_frames.FrameNumbers.{before, frame_at}
 use Rattle.job_results.specs.JobResults.{IsFilteredAs}
 use Rattle.job_results.proofs.CodedFrames.{coded_by}
 use Rattle.job_rows.proofs.DueRows.{if_ok, of_frame}

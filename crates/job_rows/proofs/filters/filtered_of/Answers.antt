@@ -4,7 +4,7 @@ use Rattle.frame_headers.specs.HeaderState.{shape_of}
 use Rattle.frame_headers.specs.Spans.{tile_count}
 use Rattle.frame_headers.specs.declared.header.FrameSize.{FrameSize}
 use Rattle.frame_headers.specs.declared.header.Header.{Header}
-use Rattle.frame_state.proofs.ColumnBlocks.{all_fit}
+use Rattle.job_results.proofs.of_frame_state.ColumnBlocks.{all_fit}
 use Rattle.loop_edges.specs.declared.setting.EdgeSetting.{EdgeSetting}
 use Rattle.job_rows.proofs.filters.filtered_of.Goals as goal
 

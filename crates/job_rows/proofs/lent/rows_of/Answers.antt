@@ -1,7 +1,7 @@
 use Rattle.std.proofs.Common.{◌<◌, arith}
 use Rattle.vp9_types.specs.Shapes.{mi_rows}
 use Rattle.vp9_types.specs.Sizes.{superblocks_along}
-use Rattle.numbered_frames.specs.NumberedPictures.{pictures}
+use Rattle.job_results.specs.numbered_frames.NumberedPictures.{pictures}
 use Rattle.job_rows.proofs.FilteredSteps.{one_more_held, pushed_many, row_is_final}
 use Rattle.job_rows.proofs.lent.rows_of.Goals as goal
 

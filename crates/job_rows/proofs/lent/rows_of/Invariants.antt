@@ -1,7 +1,7 @@
 use Rattle.std.proofs.Common.{◌≡◌, ◌≤◌, ◌-◌, length, map}
 use Rattle.std.specs.Vec.{vec_capacity}
 use Rattle.filtered_rows.specs.BufferRows.{HoldRows}
-use Rattle.numbered_frames.specs.NumberedPictures.{pictures}
+use Rattle.job_results.specs.numbered_frames.NumberedPictures.{pictures}
 use Rattle.job_rows.proofs.lent.rows_of.Given as goal
 
 abbrev pub invariant-loop-row : goal.invariant-loop-row

@@ -6,9 +6,9 @@ use Rattle.block_rebuild.specs.Code.{rebuilding_of}
 use Rattle.block_rebuild.specs.declared.references.Rebuilding.{Rebuilding}
 use Rattle.filtered_rows.specs.Code.{map_in}
 use Rattle.filtered_rows.specs.BufferRows.{RowSpan}
-use Rattle.recon_rows.specs.OwnStrips.{HoldsRowOf}
-use Rattle.numbered_frames.specs.Coded.{CodedFrame, coded}
-use Rattle.numbered_frames.specs.NumberedPictures.{pictures}
+use Rattle.column_strips.specs.recon_rows.OwnStrips.{HoldsRowOf}
+use Rattle.job_results.specs.numbered_frames.Coded.{CodedFrame, coded}
+use Rattle.job_results.specs.numbered_frames.NumberedPictures.{pictures}
 use Rattle.job_results.specs.JobResults.{IsStripAs}
 use Rattle.job_rows.specs.LentStrips.{IsPlannedRow, ReadsRows}
 use Rattle.job_rows.proofs.DueRows.{if_ok}

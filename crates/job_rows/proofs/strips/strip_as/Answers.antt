@@ -3,8 +3,8 @@ use Rattle.std.specs.Option.{option_copied}
 use Rattle.std.specs.Prelude.{Some}
 use Rattle.band_needs.specs.declared.ranges.BandNeeds.{BandNeeds}
 use Rattle.frame_headers.specs.declared.header.FrameKind.TheVariants.{Inter}
-use Rattle.frame_steps.specs.StepResults.{row_needs_of}
-use Rattle.numbered_frames.specs.Coded.{CodedFrame, coded}
+use Rattle.job_results.specs.frame_steps.StepResults.{row_needs_of}
+use Rattle.job_results.specs.numbered_frames.Coded.{CodedFrame, coded}
 use Rattle.job_results.specs.JobResults.{IsStripAs}
 use Rattle.job_rows.specs.LentRows.{OfFrame}
 use Rattle.job_rows.specs.LentStrips.{AreAllRows, IsPlannedRow, ReadsRows, RefersToNone}

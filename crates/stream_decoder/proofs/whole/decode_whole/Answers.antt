@@ -4,8 +4,8 @@ use Rattle.std.specs.declared.alloc.Global.{Global}
 use Rattle.edge_io.specs.SourceReading.{CountsReadFaults, ReadsAll}
 use Rattle.edge_io.specs.declared.read.ReadError.{ReadError}
 use Rattle.edge_io.specs.declared.read.ReadError.TheVariants as refused
-use Rattle.seq_decoder.specs.Outcomes.{Decodes}
-use Rattle.seq_decoder.specs.Outputs.{output_of}
+use Rattle.job_decoder.specs.seq_decoder.Outcomes.{Decodes}
+use Rattle.job_decoder.specs.seq_decoder.Outputs.{output_of}
 use Rattle.stream_decoder.proofs.Wholes.{IsBegun, decodes_read, fails_read, left_in, wants_memory}
 use Rattle.stream_decoder.proofs.whole.decode_whole.Goals as goal
 

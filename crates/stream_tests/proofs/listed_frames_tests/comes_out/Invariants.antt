@@ -1,4 +1,4 @@
-use Rattle.seq_decoder.specs.Code.{MayDecode}
+use Rattle.listed_frames.specs.seq_decoder.Code.{MayDecode}
 use Rattle.stream_tests.proofs.listed_frames_tests.comes_out.Given as goal
 
 abbrev pub invariant-loop-frame : goal.invariant-loop-frame

@@ -1,8 +1,8 @@
 use Rattle.std.proofs.Common.{◌≡◌, subst, string_bytes}
 use Rattle.std.specs.Prelude.{None, Ok}
 use Rattle.frame_output.specs.declared.rendering.Format.TheVariants.{Raw}
-use Rattle.seq_decoder.specs.Outputs.{output_of}
-use Rattle.seq_decoder.specs.Runs.{run_of}
+use Rattle.job_decoder.specs.seq_decoder.Outputs.{output_of}
+use Rattle.job_decoder.specs.seq_decoder.Runs.{run_of}
 use Rattle.stream_trial.specs.Code.{Tells}
 use Rattle.stream_trial.specs.TrialLines.{shown_count}
 use Rattle.stream_trial.proofs.Sums.{tells_line}

@@ -1,5 +1,5 @@
 use Rattle.frame_output.specs.declared.rendering.Format.TheVariants.{Raw}
-use Rattle.seq_decoder.specs.Outputs.{output_of}
+use Rattle.job_decoder.specs.seq_decoder.Outputs.{output_of}
 use Rattle.stream_trial.proofs.Sums.{tells}
 use Rattle.stream_trial.proofs.trial.try_crew.Goals as goal
 

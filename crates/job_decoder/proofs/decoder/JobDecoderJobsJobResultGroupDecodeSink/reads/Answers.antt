@@ -1,8 +1,8 @@
 use Rattle.std.proofs.Common.{◌≡◌, arith, ◌+◌, refl}
 use Rattle.std.specs.Prelude.{Some}
 use Rattle.vp9_types.specs.declared.job.JobName.TheVariants.{Rows}
-use Rattle.numbered_frames.specs.Coded.{coded}
-use Rattle.job_results.specs.RowReads.{kept_spans, reads_from}
+use Rattle.job_rows.specs.numbered_frames.Coded.{coded}
+use Rattle.job_rows.specs.job_results.RowReads.{kept_spans, reads_from}
 use Rattle.job_decoder.proofs.Groups.{due_by_name, fits_in_film}
 use Rattle.job_decoder.proofs.ReadSpans.{all_named, is_some, spans_kept, spans_told}
 use Rattle.job_decoder.proofs.decoder.JobDecoderJobsJobResultGroupDecodeSink.reads.Goals as goal

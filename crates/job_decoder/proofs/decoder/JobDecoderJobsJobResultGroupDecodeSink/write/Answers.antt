@@ -2,7 +2,7 @@ use Rattle.std.proofs.Common.{arith, ◌+◌, List, ℕ, subst}
 use Rattle.vp9_types.specs.declared.job.JobName.TheVariants.{Write}
 use Rattle.edge_io.specs.Putting.{Takes}
 use Rattle.job_order.specs.Truths.{IsFront}
-use Rattle.numbered_frames.specs.FrameNumbers.{text}
+use Rattle.job_rows.specs.numbered_frames.FrameNumbers.{text}
 use Rattle.job_decoder.proofs.Groups.{fits_in_film}
 use Rattle.job_decoder.proofs.Shown.{put_by}
 use Rattle.job_decoder.proofs.decoder.JobDecoderJobsJobResultGroupDecodeSink.write.Goals as goal

@@ -1,5 +1,5 @@
 use Rattle.std.proofs.Common.{ap}
-use Rattle.job_results.specs.Meaning.{builds, shown_as}
+use Rattle.job_rows.specs.job_results.Meaning.{builds, shown_as}
 use Rattle.job_decoder.proofs.kept_frames.KeptFrames.close.Goals as goal
 
 pub returns-in-Closed-clause-goes_on : goal.returns-in-Closed-clause-goes_on

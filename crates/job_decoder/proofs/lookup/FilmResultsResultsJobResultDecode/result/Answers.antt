@@ -1,7 +1,7 @@
 use Rattle.std.proofs.Common.{◌∙◌, ap, sym, subst}
 use Rattle.job_crew.specs.Runs.{GoesOn}
-use Rattle.job_results.specs.Groups.{in_film}
-use Rattle.job_results.specs.Meaning.{decode_rules}
+use Rattle.job_rows.specs.job_results.Groups.{in_film}
+use Rattle.job_rows.specs.job_results.Meaning.{decode_rules}
 use Rattle.job_decoder.proofs.Groups.{goes_on_in_film}
 use Rattle.job_decoder.proofs.lookup.FilmResultsResultsJobResultDecode.result.Goals as goal
 
