@@ -20,7 +20,7 @@ TOP = os.path.dirname(os.path.dirname(os.path.abspath(__file__)))
 ANSWERS = "vp9_app.specs.Answers"
 COMMANDS = {
     "decode": ("DecodesSo", "Reports"),
-    "list": ("listed", "Reads", "Reports"),
+    "list": ("list_output", "Reads", "Reports"),
     "make": ("Makes", "Unread", "Reports"),
     "trial": ("Trials", "Unread", "Reports"),
     "a run": ("Runs",),
@@ -30,6 +30,14 @@ TABLES = "crates/vp9_tables/src/data"
 HEAD = re.compile(r"(?:unfoldable\s+|abbrev\s+|pub\s+|record\s+|data\s+)*([^\s:]+)")
 WORDS = re.compile(r"[^\s(){}\[\],;]+")
 USE = re.compile(r"use Rattle\.([\w.]+?)(?:\.\{(.*)\}| as (\S+))?$")
+
+
+def own_path(path):
+    """Returns the path that the library itself writes, of one that another library passes on: MID.specs.LOW.Grid is LOW.specs.Grid."""
+    parts = path.split(".")
+    while len(parts) > 2 and os.path.isdir(f"{TOP}/crates/{parts[2]}"):
+        parts = [parts[2], parts[1], *parts[3:]]
+    return ".".join(parts)
 
 
 class Module:
@@ -54,6 +62,7 @@ class Module:
         if not found:
             return
         module, some, alias = found.groups()
+        module = own_path(module)
         if alias:
             self.aliases[alias] = module
         for one in re.split(r",\s*", some or ""):
