@@ -1,5 +1,5 @@
 -- Filtered samples stay in the range of their depth.
-use Rattle.std.proofs.Common.{◌≡◌, ◌≤◌, ◌+◌, ◌*◌, ◌-◌, ◌&&◌, ℕ, ℤ, pos, negsuc, ◌+ℤ◌, Bool, true, false, cond, inl, inr, arith, ap, map, sum, slice_index, nat_lt}
+use Rattle.std.proofs.Common.{◌≡◌, ◌≤◌, ◌*◌, ◌-◌, ◌&&◌, ℕ, ℤ, pos, negsuc, ◌+ℤ◌, Bool, true, false, cond, inl, inr, arith, ap, map, sum, slice_index, nat_lt}
 use Rattle.std.specs.Prelude.{not}
 use Rattle.std.specs.List.{range_with_len, fold}
 use Rattle.std.proofs.lemmas.Bool.{cases_lt}

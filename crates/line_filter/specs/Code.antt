@@ -1,5 +1,5 @@
 -- What the code keeps of lines: eight of them at a time, as lanes.
-use Rattle.std.specs.Prelude.{ℕ, ◌+◌, ◌-◌, ◌*◌, ◌<◌, ◌≤◌, ◌≡◌, Bool, false, ◌&&◌, List, [], ◌∷◌, min, slice_index}
+use Rattle.std.specs.Prelude.{ℕ, ◌+◌, ◌-◌, ◌*◌, ◌<◌, ◌≤◌, ◌≡◌, Bool, false, not, ◌&&◌, if◌then◌else◌, List, [], ◌∷◌, min, slice_index}
 use Rattle.vp9_types.specs.Maps.{Map}
 use Rattle.planes.specs.declared.area.Area.{Area}
 use Rattle.planes.specs.Planes.{lower_end, right_end, with_part}
@@ -12,7 +12,7 @@ use Rattle.line_filter.specs.declared.lanes.Lanes.{Lanes}
 use Rattle.line_filter.specs.declared.lanes.Rows.{Rows}
 use Rattle.line_filter.specs.declared.near.Near.{Near}
 use Rattle.line_filter.specs.FilteredEdges.{reach, line_down, line_along, nth_of_line}
-use Rattle.line_filter.specs.Lines.{Line, filter_mask, flat_mask, flat_mask2}
+use Rattle.line_filter.specs.Lines.{Line, filter_mask, flat_mask, flat_mask2, narrow_filter, wide_filter}
 
 -- four samples on each side
 abbrev pub line_of : Near → Line
@@ -105,6 +105,34 @@ is_flat_far l x = filter_mask l x && (flat_mask l x && flat_mask2 l x)
 
 abbrev pub AreNotFlat : Limits → Lanes → Lanes → ℕ → Type 0
 AreNotFlat l a b n = (j : ℕ) → j < n → is_flat_far l (line_between a b j) ≡ false
+
+-- the widest filter changes each of the first n columns that any filter changes
+abbrev pub is_near_alone : Limits → Line → Bool
+is_near_alone l x = filter_mask l x && not (flat_mask l x && flat_mask2 l x)
+
+abbrev pub AreFlat : Limits → Lanes → Lanes → ℕ → Type 0
+AreFlat l a b n = (j : ℕ) → j < n → is_near_alone l (line_between a b j) ≡ false
+
+-- a line by one of the filters, where that changes it
+abbrev pub narrowed : Limits → Line → Line
+narrowed l x = if filter_mask l x then narrow_filter l x else x
+
+abbrev pub smoothed : Limits → Line → Line
+smoothed l x = if filter_mask l x then wide_filter 3 x else x
+
+abbrev pub smoothed_far : Limits → Line → Line
+smoothed_far l x = if filter_mask l x then wide_filter 7 x else x
+
+-- a line is one for the wider filter, or for the narrow one
+abbrev pub is_smoothed : Limits → Line → Bool
+is_smoothed l x = filter_mask l x && flat_mask l x
+
+abbrev pub is_narrowed : Limits → Line → Bool
+is_narrowed l x = filter_mask l x && not (flat_mask l x)
+
+-- none of the first n columns is such a line
+abbrev pub NoneIs : (Line → Bool) → Lanes → ℕ → Type 0
+NoneIs test x n = (j : ℕ) → j < n → test (line_of (near_at x j)) ≡ false
 
 -- eight rows of eight samples are a part of a map
 pub record AreLanes (x : Lanes) (f : ℕ → ℕ → ℕ) : Type 0 where

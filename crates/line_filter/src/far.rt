@@ -3,7 +3,7 @@
 ghost use Rattle.std.specs.Prelude.{◌≡◌, ◌≤◌, ◌&&◌, nat_le, if◌then◌else◌};
 ghost use Rattle.line_filter.specs.Lines.{flat_mask2, wide_filter, filtered_line};
 ghost use Rattle.line_filter.specs.declared.edge.FilterWidth.TheVariants.{Sixteen};
-ghost use Rattle.line_filter.specs.Code.{IsNear, IsFar, wide_line_of};
+ghost use Rattle.line_filter.specs.Code.{IsNear, IsFar, smoothed_far, wide_line_of};
 
 use crate::edge::Limits;
 use crate::near::{Near, filter_mask, filtered, flat_mask, is_close};
@@ -97,6 +97,18 @@ pub fn filtered_far(x: Near, y: Far, l: Limits) -> Wide
     let flat = filter_mask(x, l) & (flat_mask(x, l) & flat_mask2(x, y, l));
     let smooth = smooth_far(x, y);
     chosen_far(flat, smooth, Wide { near, far: y })
+}
+
+/// The line filtered, where the widest filter changes it if any does.
+#[inline(always)]
+pub fn smoothed_far(x: Near, y: Far, l: Limits) -> Wide
+    requires near { IsNear x }
+    requires far { IsFar y }
+    ensures { wide_line_of result.near result.far ≡ smoothed_far l (wide_line_of x y) }
+{
+    let calm = filter_mask(x, l);
+    let smooth = smooth_far(x, y);
+    chosen_far(calm, smooth, Wide { near: x, far: y })
 }
 
 #[inline(always)]

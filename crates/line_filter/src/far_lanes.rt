@@ -3,10 +3,11 @@
 ghost use Rattle.std.specs.Prelude.{◌≡◌, ℕ, ◌<◌, ◌≤◌, false};
 ghost use Rattle.line_filter.specs.Lines.{filtered_line};
 ghost use Rattle.line_filter.specs.declared.edge.FilterWidth.TheVariants.{Sixteen};
-ghost use Rattle.line_filter.specs.Code.{IsNear, IsFar, wide_line_of, AreNotCalm, AreNotFlat, between, near_between, far_between, lanes_of};
+ghost use Rattle.line_filter.specs.Code.{IsNear, IsFar, wide_line_of, AreFlat, AreNotCalm, AreNotFlat, between, near_between, far_between, lanes_of};
 
 use crate::edge::Limits;
-use crate::far::{Far, filtered_far, flat_mask2};
+use crate::far::{Far, flat_mask2};
+use crate::filters::{FarFilter, Mixed, Smooth};
 use crate::lanes::{Lanes, Rows, lanes_of, rows_of};
 use crate::near::{Near, filter_mask, flat_mask};
 
@@ -63,11 +64,12 @@ pub fn between(above: &Lanes, below: &Lanes) -> Lanes
     }
 }
 
-/// Whether the filters of all widths change any of eight columns, and whether the widest one does.
+/// Whether the filters of all widths change any of eight columns, whether the widest one does, and whether another one does.
 #[derive(Clone, Copy, Debug, PartialEq, Eq)]
 pub struct FarMasks {
     pub calm: bool,
     pub flat: bool,
+    pub near: bool,
 }
 
 #[inline(always)]
@@ -75,16 +77,24 @@ fn masks_of(above: &Rows, below: &Rows, l: Limits) -> FarMasks
     requires near { (j : ℕ) → j < 8 → IsNear (near_between (lanes_of above.now) (lanes_of below.now) j) }
     ensures calm { result.calm ≡ false → AreNotCalm l (lanes_of above.now) (lanes_of below.now) 8 }
     ensures flat { result.flat ≡ false → AreNotFlat l (lanes_of above.now) (lanes_of below.now) 8 }
+    ensures near { result.near ≡ false → AreFlat l (lanes_of above.now) (lanes_of below.now) 8 }
 {
     let mut calm = false;
     let mut flat = false;
+    let mut other = false;
     for j in 0..8usize {
         let (x, y) = (near(above, below, j), far(above, below, j));
         let is_calm = filter_mask(x, l);
+        let is_flat = flat_mask(x, l) & flat_mask2(x, y, l);
         calm |= is_calm;
-        flat |= is_calm & (flat_mask(x, l) & flat_mask2(x, y, l));
+        flat |= is_calm & is_flat;
+        other |= is_calm & !is_flat;
     }
-    FarMasks { calm, flat }
+    FarMasks {
+        calm,
+        flat,
+        near: other,
+    }
 }
 
 /// Which filters change any of eight columns.
@@ -93,17 +103,18 @@ pub fn far_masks(above: &Lanes, below: &Lanes, l: Limits) -> FarMasks
     requires near { (j : ℕ) → j < 8 → IsNear (near_between above.now below.now j) }
     ensures calm { result.calm ≡ false → AreNotCalm l above.now below.now 8 }
     ensures flat { result.flat ≡ false → AreNotFlat l above.now below.now 8 }
+    ensures near { result.near ≡ false → AreFlat l above.now below.now 8 }
 {
     masks_of(&rows_of(above), &rows_of(below), l)
 }
 
 #[inline(always)]
-fn filtered_far_rows(above: &Rows, below: &Rows, l: Limits) -> (Rows, Rows)
+fn filtered_far_rows<F: FarFilter>(above: &Rows, below: &Rows, l: Limits) -> (Rows, Rows)
     requires near { (j : ℕ) → j < 8 → IsNear (near_between (lanes_of above.now) (lanes_of below.now) j) }
     requires far { (j : ℕ) → j < 8 → IsFar (far_between (lanes_of above.now) (lanes_of below.now) j) }
     requires half { l.half ≤ 2048 }
     ensures { (j : ℕ) → j < 8 → wide_line_of (near_between (lanes_of result.0) (lanes_of result.1) j) (far_between (lanes_of result.0) (lanes_of result.1) j)
-        ≡ filtered_line l Sixteen (wide_line_of (near_between (lanes_of above.now) (lanes_of below.now) j) (far_between (lanes_of above.now) (lanes_of below.now) j)) }
+        ≡ F.line l (wide_line_of (near_between (lanes_of above.now) (lanes_of below.now) j) (far_between (lanes_of above.now) (lanes_of below.now) j)) }
 {
     let mut a0 = [0; 8];
     let mut a1 = [0; 8];
@@ -122,7 +133,7 @@ fn filtered_far_rows(above: &Rows, below: &Rows, l: Limits) -> (Rows, Rows)
     let mut b6 = [0; 8];
     let mut b7 = [0; 8];
     for j in 0..8usize {
-        let line = filtered_far(near(above, below, j), far(above, below, j), l);
+        let line = F::filtered_far(near(above, below, j), far(above, below, j), l);
         a0[j] = line.far.p7;
         a1[j] = line.far.p6;
         a2[j] = line.far.p5;
@@ -164,19 +175,26 @@ fn filtered_far_rows(above: &Rows, below: &Rows, l: Limits) -> (Rows, Rows)
 }
 
 /// Eight columns filtered by the filters of all widths, each as its line alone: eight rows above the edge, and eight
-/// below it. Each caller has a `SITE` of its own.
+/// below it; by the widest filter alone, unless another one changes any of them. Each caller has a `SITE` of its own.
 #[inline(always)]
 pub fn filtered_far_lanes<const SITE: usize>(
     above: &Lanes,
     below: &Lanes,
     l: Limits,
+    near: bool,
 ) -> (Lanes, Lanes)
     requires near { (j : ℕ) → j < 8 → IsNear (near_between above.now below.now j) }
     requires far { (j : ℕ) → j < 8 → IsFar (far_between above.now below.now j) }
     requires half { l.half ≤ 2048 }
+    requires flat { near ≡ false → AreFlat l above.now below.now 8 }
     ensures { (j : ℕ) → j < 8 → wide_line_of (near_between result.0 result.1 j) (far_between result.0 result.1 j)
         ≡ filtered_line l Sixteen (wide_line_of (near_between above.now below.now j) (far_between above.now below.now j)) }
 {
-    let (above, below) = filtered_far_rows(&rows_of(above), &rows_of(below), l);
-    (lanes_of(&above), lanes_of(&below))
+    let (above, below) = (rows_of(above), rows_of(below));
+    if !near {
+        let (upper, lower) = filtered_far_rows::<Smooth>(&above, &below, l);
+        return (lanes_of(&upper), lanes_of(&lower));
+    }
+    let (upper, lower) = filtered_far_rows::<Mixed>(&above, &below, l);
+    (lanes_of(&upper), lanes_of(&lower))
 }

@@ -1,11 +1,12 @@
 //! Eight lines at a time, of four samples on each side.
 
-ghost use Rattle.std.specs.Prelude.{◌≡◌, ℕ, ◌<◌, ◌≤◌};
+ghost use Rattle.std.specs.Prelude.{◌≡◌, ℕ, ◌<◌, ◌≤◌, false};
 ghost use Rattle.line_filter.specs.Lines.{filtered_near};
-ghost use Rattle.line_filter.specs.Code.{IsNear, line_of, near_at, lanes_of};
+ghost use Rattle.line_filter.specs.Code.{IsNear, NoneIs, is_narrowed, is_smoothed, line_of, near_at, lanes_of};
 
 use crate::edge::Limits;
-use crate::near::{Near, filtered};
+use crate::filters::{LineFilter, Mixed, Narrow, Smooth};
+use crate::near::{Near, filter_mask, flat_mask};
 use std::simd::prelude::*;
 
 /// Eight samples of a row.
@@ -104,12 +105,37 @@ fn near(x: &Rows, j: usize) -> Near
     }
 }
 
+/// Which filters change any of eight columns.
+#[derive(Clone, Copy, Debug, PartialEq, Eq)]
+struct NearMasks {
+    narrow: bool,
+    smooth: bool,
+}
+
+#[inline(always)]
+fn masks_of(x: &Rows, l: Limits) -> NearMasks
+    requires small { (j : ℕ) → j < 8 → IsNear (near_at (lanes_of x.now) j) }
+    ensures narrow { result.narrow ≡ false → NoneIs (is_narrowed l) (lanes_of x.now) 8 }
+    ensures smooth { result.smooth ≡ false → NoneIs (is_smoothed l) (lanes_of x.now) 8 }
+{
+    let mut narrow = false;
+    let mut smooth = false;
+    for j in 0..8usize {
+        let line = near(x, j);
+        let calm = filter_mask(line, l);
+        let flat = flat_mask(line, l);
+        narrow |= calm & !flat;
+        smooth |= calm & flat;
+    }
+    NearMasks { narrow, smooth }
+}
+
 /// Eight columns filtered, each as its line alone.
 #[inline(always)]
-fn filtered_rows(x: &Rows, l: Limits, wide: bool) -> Rows
+fn filtered_rows<F: LineFilter>(x: &Rows, l: Limits) -> Rows
     requires small { (j : ℕ) → j < 8 → IsNear (near_at (lanes_of x.now) j) }
     requires half { l.half ≤ 2048 }
-    ensures { (j : ℕ) → j < 8 → line_of (near_at (lanes_of result) j) ≡ filtered_near l wide (line_of (near_at (lanes_of x.now) j)) }
+    ensures { (j : ℕ) → j < 8 → line_of (near_at (lanes_of result) j) ≡ F.line l (line_of (near_at (lanes_of x.now) j)) }
 {
     let mut r0 = [0; 8];
     let mut r1 = [0; 8];
@@ -120,7 +146,7 @@ fn filtered_rows(x: &Rows, l: Limits, wide: bool) -> Rows
     let mut r6 = [0; 8];
     let mut r7 = [0; 8];
     for j in 0..8usize {
-        let line = filtered(near(x, j), l, wide);
+        let line = F::filtered(near(x, j), l);
         r0[j] = line.p3;
         r1[j] = line.p2;
         r2[j] = line.p1;
@@ -142,7 +168,7 @@ fn filtered_rows(x: &Rows, l: Limits, wide: bool) -> Rows
     }
 }
 
-/// Eight columns filtered by the filters of width 4, or of width 8. Each caller has a `SITE` of its own, and so a copy that
+/// Eight columns filtered by the filters of width 4, or of width 8: by those alone that change any of them. Each caller has a `SITE` of its own, and so a copy that
 /// becomes a part of it: lanes stay in registers.
 #[inline(always)]
 pub fn filtered_by<const SITE: usize>(x: &Lanes, l: Limits, wide: bool) -> Lanes
@@ -150,5 +176,16 @@ pub fn filtered_by<const SITE: usize>(x: &Lanes, l: Limits, wide: bool) -> Lanes
     requires half { l.half ≤ 2048 }
     ensures { (j : ℕ) → j < 8 → line_of (near_at result j) ≡ filtered_near l wide (line_of (near_at x.now j)) }
 {
-    lanes_of(&filtered_rows(&rows_of(x), l, wide))
+    let rows = rows_of(x);
+    if !wide {
+        return lanes_of(&filtered_rows::<Narrow>(&rows, l));
+    }
+    let masks = masks_of(&rows, l);
+    if !masks.smooth {
+        return lanes_of(&filtered_rows::<Narrow>(&rows, l));
+    }
+    if !masks.narrow {
+        return lanes_of(&filtered_rows::<Smooth>(&rows, l));
+    }
+    lanes_of(&filtered_rows::<Mixed>(&rows, l))
 }

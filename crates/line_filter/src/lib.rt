@@ -5,6 +5,7 @@ mod edge;
 mod edges;
 mod far;
 mod far_lanes;
+mod filters;
 mod kept;
 mod lanes;
 mod near;

@@ -3,7 +3,7 @@
 ghost use Rattle.std.specs.Prelude.{◌≡◌, ◌≤◌, ◌∷◌, [], ◌+ℤ◌, ◌-ℤ◌, ◌*ℤ◌, ◌≤ℤ◌, ◌^◌, pos, neg_ℤ, unsigned_abs, nat_le, ◌&&◌, not, if◌then◌else◌};
 ghost use Rattle.std.specs.Int.{int_shr, abs_diff};
 ghost use Rattle.line_filter.specs.Lines.{filter4_clamp, moved_sample, filter_mask, hev_mask, flat_mask, outer, change, narrow_filter, wide_filter, filtered_near};
-ghost use Rattle.line_filter.specs.Code.{IsNear, line_of};
+ghost use Rattle.line_filter.specs.Code.{IsNear, line_of, narrowed, smoothed};
 
 use crate::edge::Limits;
 
@@ -214,6 +214,29 @@ pub fn filtered(x: Near, l: Limits, wide: bool) -> Near
     let narrow = narrow(x, l);
     let smooth = smooth(x);
     chosen(calm, flat, x, smooth, narrow)
+}
+
+/// The line filtered, where it isn't flat.
+#[inline(always)]
+pub fn narrowed(x: Near, l: Limits) -> Near
+    requires small { IsNear x }
+    requires half { l.half ≤ 2048 }
+    ensures { line_of result ≡ narrowed l (line_of x) }
+{
+    let calm = filter_mask(x, l);
+    let narrow = narrow(x, l);
+    if calm { narrow } else { x }
+}
+
+/// The line filtered, where it is flat if it changes.
+#[inline(always)]
+pub fn smoothed(x: Near, l: Limits) -> Near
+    requires small { IsNear x }
+    ensures { line_of result ≡ smoothed l (line_of x) }
+{
+    let calm = filter_mask(x, l);
+    let smooth = smooth(x);
+    if calm { smooth } else { x }
 }
 
 #[inline(always)]
