@@ -1,4 +1,5 @@
 pub mod Groups
+pub mod GroupRules
 pub mod ReadSpans
 pub mod Ends
 pub mod Shown

@@ -51,7 +51,7 @@ fn without_memory<K: Sink, B: DecodeRun>(output: DecodeSink<K, B>) -> GroupRan<K
 }
 
 /// Decodes the frames of a group by a crew.
-#[tactic(auto, using(job_rows::proofs::of_job_results::TrueRules::group_can))]
+#[tactic(auto, using(crate::proofs::GroupRules::rules_can))]
 pub(crate) fn run_group<
     'a,
     B: DecodeRun + Send + Sync,

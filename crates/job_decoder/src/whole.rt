@@ -85,7 +85,7 @@ fn without_memory<K: Sink, B: DecodeRun>(output: DecodeSink<K, B>) -> Decoded<K>
 }
 
 /// Decodes a file whose bytes, format and sink are named.
-#[tactic(auto, using(job_rows::proofs::of_job_results::TrueRules::group_can))]
+#[tactic(auto, using(crate::proofs::GroupRules::rules_can))]
 fn decode_as<
     B: DecodeRun + Send + Sync,
     K: Sink + Send + Drop,
