@@ -163,9 +163,33 @@ fn put_columns<P: FilterSample, S: Samples<Kept = P>, const N: usize>(
     true
 }
 
-/// Puts a block that is predicted from one reference at its place in a plane, and says whether it did: blocks of 16, 32 and
-/// 64 columns are put, where the reference has the frame's size and, if they are copied, lie in one piece of it. What is
-/// asked of the reference and of the lines is as `predict` asks it.
+/// Puts a block of N columns, if it is copied.
+#[inline(always)]
+fn put_copy<P: FilterSample, S: Samples<Kept = P>, const N: usize>(
+    view: &S,
+    place: &Place,
+    by: Interpolation,
+    samples: &mut SamplePlane<P>,
+) -> bool
+    requires width { N ≡ place.now.columns }
+    requires place { IsPlace place.now }
+    requires held { (r : ℕ) → first_place place.now.down ≤ r → r ≤ last_place place.now.down place.now.rows → S.holds view.now place.now.plane r }
+    requires wide { place.now.across.size ≤ S.width view.now place.now.plane }
+    requires samples { IsAtMost by.most (S.map view.now place.now.plane) }
+    requires inside { LiesIn samples.old.area place.now }
+    ensures kept { OnFalse result (samples.new ≡ samples.old) }
+    ensures area { samples.new.area ≡ samples.old.area }
+    ensures map { OnTrue result (plane_map samples.new ≡ with_place samples.old.area (plane_map samples.old) place.now (predicted_at by.most by.kind place.now (S.map view.now))) }
+{
+    if !is_whole(&place.down) {
+        return false;
+    }
+    put_copied::<P, S, N>(view, place, by, samples)
+}
+
+/// Puts a block that is predicted from one reference at its place in a plane, and says whether it did: where the reference
+/// has the frame's size, blocks of 16, 32 and 64 columns are put, and smaller ones if they are copied; those that are copied
+/// only where they lie in one piece of it. What is asked of the reference and of the lines is as `predict` asks it.
 pub fn predict_in_plane<P: FilterSample, S: Samples<Kept = P>>(
     view: &S,
     place: &Place,
@@ -187,6 +211,8 @@ pub fn predict_in_plane<P: FilterSample, S: Samples<Kept = P>>(
 {
     let by = Interpolation { kind, most };
     match place.columns {
+        4 => put_copy::<P, S, 4>(view, place, by, samples),
+        8 => put_copy::<P, S, 8>(view, place, by, samples),
         16 => put_columns::<P, S, 16>(view, place, by, lines, samples),
         32 => put_columns::<P, S, 32>(view, place, by, lines, samples),
         64 => put_columns::<P, S, 64>(view, place, by, lines, samples),

@@ -4,7 +4,7 @@ use Rattle.std.proofs.Math.Nat.{mul-le-mul_left}
 use Rattle.std.proofs.Math.IntN.{+ℤ_assoc, +ℤ_comm}
 use Rattle.std.proofs.lemmas.Int.{to_z-of_z}
 use Rattle.std.proofs.lemmas.Bool.{cases_lt}
-use Rattle.std.specs.Int.{int_shr}
+use Rattle.std.specs.Int.{int_shr, int_min, int_max}
 use Rattle.vp9_types.specs.Sizes.{clip}
 use Rattle.tap_filter.specs.Filter.{IsTap, weight, weighted, filtered, rounded}
 use Rattle.tap_filter.proofs.NumberLemmas.{tap_kept}
@@ -161,3 +161,18 @@ pub line_is : (taps : List ℤ) (xs : List ℕ) (from whole j : ℕ) → whole �
     filtered 255 taps (λ k. get_or xs (from + whole + (j - whole + k)) 0) ≡ filtered 255 taps (λ k. get_or xs (from + (j + k)) 0)
 line_is taps xs from whole j past = ap (rounded 255) (weighted_same taps (λ k. get_or xs (from + whole + (j - whole + k)) 0) (λ k. get_or xs (from + (j + k)) 0)
     (λ k. let e : from + whole + (j - whole + k) ≡ from + (j + k) = omega arith in ap (λ (z : ℕ). get_or xs z 0) e))
+
+-- clipped before 128 is added
+clip_moved : (x : ℤ) → int_min (int_max x (negsuc 127)) (pos 127) +ℤ pos 128 ≡ pos (clip 255 (x +ℤ pos 128))
+clip_moved (pos n) = grind arith
+clip_moved (negsuc n) = grind arith
+
+pub clip_most : (z : ℤ) → clip 255 z ≤ 255
+clip_most (pos n) = omega arith
+clip_most (negsuc n) = omega arith
+
+pub moved_is : (x low byte : ℤ) → low ≡ int_max x (negsuc 127) → byte ≡ int_min low (pos 127) → to_z w16 (of_z w16 byte) ≡ byte
+    → to_z w16 (of_z w16 (to_z w16 (of_z w16 byte) +ℤ pos 128)) ≡ pos (clip 255 (x +ℤ pos 128))
+moved_is x low byte first second kept =
+    let most = clip_most (x +ℤ pos 128) in
+    rw (kept, second, first, clip_moved x) (to_z-of_z w16 (pos (clip 255 (x +ℤ pos 128))) (fits_bytes _ (omega (arith, most)) (omega arith)))

@@ -11,7 +11,7 @@ ghost use Rattle.vp9_tables.specs.Filters.{AreTaps};
 fn byte_of(sum: i16) -> u8
     ensures { result ≡ clip 255 (int_shr sum 7 +ℤ pos 128) }
 {
-    ((sum >> 7) + 128).max(0).min(255) as u8
+    ((sum >> 7).max(-128).min(127) + 128) as u8
 }
 
 /// One filtered value, tap k standing k * step places after the first.
