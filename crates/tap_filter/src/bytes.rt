@@ -70,9 +70,9 @@ pub(crate) fn bytes_of(numbers: &[u16; 71]) -> [u8; 71]
     bytes
 }
 
-/// So many filtered values, as `filter_run` does, of samples of one byte.
+/// So many filtered values.
 #[inline(always)]
-pub fn filter_byte_run(
+fn byte_run(
     out: &mut [u8],
     count: usize,
     samples: &[u8],
@@ -94,6 +94,36 @@ pub fn filter_byte_run(
         let at = 16 * b;
         let values = filtered_bytes(samples, from + at, step, taps);
         out[at..at + 16].copy_from_slice(&values);
+    }
+}
+
+/// So many filtered values, as `filter_run` does, of samples of one byte.
+#[inline(always)]
+pub fn filter_byte_run(
+    out: &mut [u8],
+    count: usize,
+    samples: &[u8],
+    from: usize,
+    step: usize,
+    taps: &[i16; 8],
+)
+    requires few { count ≤ 4096 }
+    requires sixteens { count ≡ 16 * (count / 16) }
+    requires room { count ≤ length out.old }
+    requires near { from ≤ 65536 }
+    requires narrow { step ≤ 64 }
+    requires enough { from + count + 7 * step ≤ length samples.now }
+    requires taps { AreTaps taps.now }
+    ensures value { (j : ℕ) → j < count → slice_index out.new j ≡ filtered 255 taps.now (λ k. slice_index samples.now (from + k * step + j)) }
+    ensures after { (j : ℕ) → count ≤ j → slice_index out.new j ≡ slice_index out.old j }
+{
+    // The steps of narrow blocks are then known where this is compiled.
+    if step == 8 {
+        byte_run(out, count, samples, from, 8, taps);
+    } else if step == 4 {
+        byte_run(out, count, samples, from, 4, taps);
+    } else {
+        byte_run(out, count, samples, from, step, taps);
     }
 }
 

@@ -1,6 +1,6 @@
 use Rattle.std.proofs.Common.{◌≡◌, ◌<◌, ◌≤◌, ◌+◌, ◌*◌, ℕ, get_or}
 use Rattle.tap_filter.specs.Filter.{filtered}
-use Rattle.tap_filter.proofs.bytes.filter_byte_run.Given as goal
+use Rattle.tap_filter.proofs.bytes.byte_run.Given as goal
 
 abbrev pub invariant-loop-b : goal.invariant-loop-b
 invariant-loop-b l = record {
