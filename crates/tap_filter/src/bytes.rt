@@ -72,14 +72,7 @@ pub(crate) fn bytes_of(numbers: &[u16; 71]) -> [u8; 71]
 
 /// So many filtered values.
 #[inline(always)]
-fn byte_run(
-    out: &mut [u8],
-    count: usize,
-    samples: &[u8],
-    from: usize,
-    step: usize,
-    taps: &[i16; 8],
-)
+fn byte_run(out: &mut [u8], count: usize, samples: &[u8], from: usize, step: usize, taps: &[i16; 8])
     requires few { count ≤ 4096 }
     requires sixteens { count ≡ 16 * (count / 16) }
     requires room { count ≤ length out.old }
