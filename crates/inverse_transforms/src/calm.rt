@@ -9,7 +9,7 @@ ghost use Rattle.inverse_transforms.specs.Ranges.{IsSmall, IsNarrow};
 
 use crate::lane_steps;
 use crate::lanes::{Lanes, added_lanes};
-use crate::narrow::{LIMIT, dct_lanes, rotated_lanes};
+use crate::narrow::{LIMIT, dct_lanes, odd_lanes, rotated_lanes};
 use crate::turn::Turn;
 use vp9_tables::FlowRow;
 use vp9_types::Rule;
@@ -105,4 +105,29 @@ pub fn dct_of_4(t: &mut [Lanes])
     t[1] = q;
     t[2] = r;
     t[3] = s;
+}
+
+/// The DCT of 8 of eight columns, by its formula.
+#[inline(always)]
+pub fn dct_of_8(t: &mut [Lanes])
+    requires size { length t.old ≡ 8 }
+    requires few { (j : ℕ) → j < 8 → magnitude (column j t.old) ≤ 2 ^ 15 }
+    requires small { All (All IsSmall) t.old }
+    ensures gives { (limit j : ℕ) → 2 ^ 15 ≤ limit → j < 8 → dct limit 3 (column j t.old) ≡ Ok (column j t.new) }
+    ensures small { All (All IsSmall) t.new }
+{
+    let (e, f, g, h, _) = dct_lanes(&t[0], &t[2], &t[4], &t[6]);
+    let (p, q, r, s, _) = odd_lanes(&t[1], &t[3], &t[5], &t[7]);
+    let (a, n, _) = added_lanes(&e, &p, LIMIT);
+    let (b, m, _) = added_lanes(&f, &q, LIMIT);
+    let (c, l, _) = added_lanes(&g, &r, LIMIT);
+    let (d, k, _) = added_lanes(&h, &s, LIMIT);
+    t[0] = a;
+    t[1] = b;
+    t[2] = c;
+    t[3] = d;
+    t[4] = k;
+    t[5] = l;
+    t[6] = m;
+    t[7] = n;
 }

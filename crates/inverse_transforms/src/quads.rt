@@ -4,7 +4,7 @@ ghost use Rattle.std.specs.Prelude.{◌≡◌, ◌+◌, ◌*◌, ◌^◌, ◌≤
 ghost use Rattle.std.specs.Int.{int_shr};
 ghost use Rattle.inverse_transforms.specs.Flow.{wide, Gives};
 ghost use Rattle.inverse_transforms.specs.Transforms.{even_part, odd_part, middle_part, difference_part, adst_quad, adst_of_4, last_lifts, middle_lifts, first_lifts, wht_quad, wht};
-ghost use Rattle.inverse_transforms.specs.Straight.{dct_quad};
+ghost use Rattle.inverse_transforms.specs.Straight.{dct_quad, odd_quad};
 ghost use Rattle.inverse_transforms.specs.Ranges.{IsSmall, IsNarrow, fits};
 
 use crate::kernels::sum_and_difference;
@@ -107,6 +107,27 @@ pub fn dct_quad(x0: i32, x1: i32, x2: i32, x3: i32) -> Four
         second: inner.first,
         third: inner.second,
         fourth: outer.second,
+    }
+}
+
+/// What the DCT of 8 makes of the values in its odd places.
+#[inline(always)]
+#[tactic(auto, unfolding(crate::specs::Straight::odd_quad))]
+pub fn odd_quad(x1: i32, x3: i32, x5: i32, x7: i32) -> Four
+    requires few { unsigned_abs x1 + unsigned_abs x3 + unsigned_abs x5 + unsigned_abs x7 ≤ 2 ^ 15 }
+    ensures { result ≡ odd_quad x1 x3 x5 x7 }
+{
+    let outer = rotated(x1, x7, Turn::by(28));
+    let inner = rotated(x5, x3, Turn::by(12));
+    let last = sum_and_difference(outer.second, inner.second);
+    let first = sum_and_difference(outer.first, inner.first);
+    let middle = rotated(last.second, first.second, Turn::by(16));
+    Four {
+        in_range: true,
+        first: last.first,
+        second: middle.second,
+        third: middle.first,
+        fourth: first.first,
     }
 }
 
