@@ -12,3 +12,4 @@ pub mod RenamedTables
 pub mod CalmTables
 pub mod Straight
 pub mod StraightEight
+pub mod StraightSixteen

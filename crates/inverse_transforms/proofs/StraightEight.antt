@@ -1,5 +1,5 @@
 -- The DCT of 8 as a formula: what the flow gives, where it gives some list.
-use Rattle.std.proofs.Common.{◌≡◌, ℕ, ◌+◌, ◌*◌, ◌/◌, ◌<◌, ◌≤◌, ◌^◌, ℤ, pos, negsuc, ◌+ℤ◌, ◌-ℤ◌, ◌*ℤ◌, unsigned_abs, List, [], ◌∷◌, length, set, get_or, refl, sym, ◌∙◌, ap, subst, arith, All, Ok, to_z, of_z}
+use Rattle.std.proofs.Common.{◌≡◌, ℕ, ◌+◌, ◌*◌, ◌/◌, ◌<◌, ◌≤◌, ◌^◌, ℤ, pos, negsuc, ◌+ℤ◌, ◌-ℤ◌, ◌*ℤ◌, unsigned_abs, List, [], ◌∷◌, length, set, get_or, refl, sym, ◌∙◌, ap, subst, arith, All, Ok, to_z, of_z, true}
 use Rattle.std.specs.Int.{int_shr}
 use Rattle.std.proofs.lemmas.Int.{unsigned_abs-mul}
 use Rattle.std.proofs.lemmas.List.{length-map}
@@ -51,37 +51,32 @@ rounded_share : (n : ℕ) (x : ℤ) → unsigned_abs x ≤ 2 ^ 14 * n → unsign
 unfolding round14
 rounded_share n x h = shifted_share n x (x +ℤ pos 8192) h refl
 
+-- its cosine and its sine are 1 at most
+abbrev pub IsAngle : ℕ → Type 0
+IsAngle k = (unsigned_abs (cosine_of k) ≤ 2 ^ 14) × (unsigned_abs (sine_of k) ≤ 2 ^ 14)
+
 abbrev pub IsShared : ℤ → ℤ → Two → Type 0
 IsShared x y v = (unsigned_abs v.first ≤ unsigned_abs x + unsigned_abs y) × (unsigned_abs v.second ≤ unsigned_abs x + unsigned_abs y)
 
-pub rotated_share : (k : ℕ) (x y : ℤ) → unsigned_abs (cosine_of k) ≤ 2 ^ 14 → unsigned_abs (sine_of k) ≤ 2 ^ 14 → IsShared x y (rotated k x y)
+pub rotated_share : (k : ℕ) (x y : ℤ) → IsAngle k → IsShared x y (rotated k x y)
 unfolding rotated turned_x turned_y
-rotated_share k x y c_most s_most = (
+rotated_share k x y angle = (
   rounded_share (unsigned_abs x + unsigned_abs y) ((x *ℤ cosine_of k) -ℤ (y *ℤ sine_of k))
-      (omega (arith, difference_at_most (x *ℤ cosine_of k) (y *ℤ sine_of k), product_share x (cosine_of k) c_most, product_share y (sine_of k) s_most)),
+      (omega (arith, difference_at_most (x *ℤ cosine_of k) (y *ℤ sine_of k), product_share x (cosine_of k) angle.0, product_share y (sine_of k) angle.1)),
   rounded_share (unsigned_abs x + unsigned_abs y) ((x *ℤ sine_of k) +ℤ (y *ℤ cosine_of k))
-      (omega (arith, sum_at_most (x *ℤ sine_of k) (y *ℤ cosine_of k), product_share x (sine_of k) s_most, product_share y (cosine_of k) c_most)),
+      (omega (arith, sum_at_most (x *ℤ sine_of k) (y *ℤ cosine_of k), product_share x (sine_of k) angle.1, product_share y (cosine_of k) angle.0)),
 )
 
 pub summed_share : (x y : ℤ) → IsShared x y (sum_and_difference x y)
 unfolding sum_and_difference
 summed_share x y = (sum_at_most x y, difference_at_most x y)
 
-pub turned_28 : (x y : ℤ) → IsShared x y (rotated 28 x y)
-turned_28 x y = rotated_share 28 x y (leb-true (unsigned_abs (cosine_of 28)) (2 ^ 14) refl) (leb-true (unsigned_abs (sine_of 28)) (2 ^ 14) refl)
-
-pub turned_12 : (x y : ℤ) → IsShared x y (rotated 12 x y)
-turned_12 x y = rotated_share 12 x y (leb-true (unsigned_abs (cosine_of 12)) (2 ^ 14) refl) (leb-true (unsigned_abs (sine_of 12)) (2 ^ 14) refl)
-
-turned_16 : (x y : ℤ) → IsShared x y (rotated 16 x y)
-turned_16 x y = rotated_share 16 x y (leb-true (unsigned_abs (cosine_of 16)) (2 ^ 14) refl) (leb-true (unsigned_abs (sine_of 16)) (2 ^ 14) refl)
-
 -- the same as the code computes it
-pub turned_kept : (k n : ℕ) (x y : ℤ) (v : Two) → k ≡ n → unsigned_abs (cosine_of n) ≤ 2 ^ 14 → unsigned_abs (sine_of n) ≤ 2 ^ 14 →
-    IsNarrow x → IsNarrow y → v ≡ rotated k (to_z w32 (of_z w32 x)) (to_z w32 (of_z w32 y)) → IsShared x y v
-turned_kept k n x y v is cosine_most sine_most x_narrow y_narrow made =
-    let value : v ≡ rotated n x y = rw (is, kept x (omega (arith, x_narrow)), kept y (omega (arith, y_narrow))) at made in
-    subst (IsShared x y) (sym value) (rotated_share n x y cosine_most sine_most)
+pub turned_kept : (k : ℕ) (x y : ℤ) (v : Two) → IsAngle k → IsNarrow x → IsNarrow y →
+    v ≡ rotated k (to_z w32 (of_z w32 x)) (to_z w32 (of_z w32 y)) → IsShared x y v
+turned_kept k x y v angle x_narrow y_narrow made =
+    let value : v ≡ rotated k x y = rw (kept x (omega (arith, x_narrow)), kept y (omega (arith, y_narrow))) at made in
+    subst (IsShared x y) (sym value) (rotated_share k x y angle)
 
 pub difference_kept : (x y : ℤ) (v : Two) → unsigned_abs x + unsigned_abs y ≤ 2 ^ 15 →
     v ≡ sum_and_difference (to_z w32 (of_z w32 x)) (to_z w32 (of_z w32 y)) → IsNarrow (to_z w32 (of_z w32 v.second))
@@ -94,37 +89,103 @@ difference_kept x y v few made =
 abbrev pub four_magnitudes : ℤ → ℤ → ℤ → ℤ → ℕ
 four_magnitudes a b c d = unsigned_abs a + unsigned_abs b + unsigned_abs c + unsigned_abs d
 
-pub odd_small : (a b c d : ℤ) → four_magnitudes a b c d ≤ 2 ^ 15 → AreSmall (odd_quad a b c d)
+-- what the code makes of them
+pub odd_made : (k m n : ℕ) (a b c d : ℤ) (o i l f t : Two) → IsAngle k → IsAngle m → IsAngle n → four_magnitudes a b c d ≤ 2 ^ 15 →
+    o ≡ rotated k (to_z w32 (of_z w32 a)) (to_z w32 (of_z w32 d)) → i ≡ rotated m (to_z w32 (of_z w32 c)) (to_z w32 (of_z w32 b)) → l ≡ sum_and_difference (to_z w32 (of_z w32 o.second)) (to_z w32 (of_z w32 i.second)) → f ≡ sum_and_difference (to_z w32 (of_z w32 o.first)) (to_z w32 (of_z w32 i.first)) → t ≡ rotated n (to_z w32 (of_z w32 l.second)) (to_z w32 (of_z w32 f.second)) →
+    record { in_range = true; first = to_z w32 (of_z w32 l.first); second = to_z w32 (of_z w32 t.second); third = to_z w32 (of_z w32 t.first); fourth = to_z w32 (of_z w32 f.first) }
+    ≡ odd_quad k m n a b c d
 unfolding odd_quad
-odd_small a b c d few =
-    let outer = rotated 28 a d in
-    let inner = rotated 12 c b in
-    let o = turned_28 a d in
-    let i = turned_12 c b in
+odd_made k m n a b c d o i l f t k_angle m_angle n_angle few o_made i_made l_made f_made t_made =
+    let o_is : o ≡ rotated k a d = rw (kept a (omega (arith, few)), kept d (omega (arith, few))) at o_made in
+    let i_is : i ≡ rotated m c b = rw (kept c (omega (arith, few)), kept b (omega (arith, few))) at i_made in
+    let o_share : IsShared a d o = subst (IsShared a d) (sym o_is) (rotated_share k a d k_angle) in
+    let i_share : IsShared c b i = subst (IsShared c b) (sym i_is) (rotated_share m c b m_angle) in
+    let l_is : l ≡ sum_and_difference o.second i.second = rw (kept o.second (omega (arith, few, o_share.1)), kept i.second (omega (arith, few, i_share.1))) at l_made in
+    let f_is : f ≡ sum_and_difference o.first i.first = rw (kept o.first (omega (arith, few, o_share.0)), kept i.first (omega (arith, few, i_share.0))) at f_made in
+    let l_share : IsShared o.second i.second l = subst (IsShared o.second i.second) (sym l_is) (summed_share o.second i.second) in
+    let f_share : IsShared o.first i.first f = subst (IsShared o.first i.first) (sym f_is) (summed_share o.first i.first) in
+    let l_most : unsigned_abs l.second ≤ 2 ^ 15 = omega (arith, few, o_share.1, i_share.1, l_share.1) in
+    let f_most : unsigned_abs f.second ≤ 2 ^ 15 = omega (arith, few, o_share.0, i_share.0, f_share.1) in
+    let t_is : t ≡ rotated n l.second f.second = rw (kept l.second (omega (arith, l_most)), kept f.second (omega (arith, f_most))) at t_made in
+    let t_share : IsShared l.second f.second t = subst (IsShared l.second f.second) (sym t_is) (rotated_share n l.second f.second n_angle) in
+    rw (
+      kept l.first (omega (arith, few, o_share.1, i_share.1, l_share.0)),
+      kept t.second (omega (arith, l_most, f_most, t_share.1)),
+      kept t.first (omega (arith, l_most, f_most, t_share.0)),
+      kept f.first (omega (arith, few, o_share.0, i_share.0, f_share.0)),
+      t_is,
+      l_is,
+      f_is,
+      o_is,
+      i_is,
+    ) refl
+
+abbrev pub IsOddShare : ℕ → Four → Type 0
+IsOddShare n v = (unsigned_abs v.first ≤ n) × (unsigned_abs v.second ≤ 2 * n) × (unsigned_abs v.third ≤ 2 * n) × (unsigned_abs v.fourth ≤ n)
+
+pub odd_share : (k m n : ℕ) (a b c d : ℤ) → IsAngle k → IsAngle m → IsAngle n → IsOddShare (four_magnitudes a b c d) (odd_quad k m n a b c d)
+unfolding odd_quad
+odd_share k m n a b c d k_angle m_angle n_angle =
+    let outer = rotated k a d in
+    let inner = rotated m c b in
+    let o = rotated_share k a d k_angle in
+    let i = rotated_share m c b m_angle in
     let last = sum_and_difference outer.second inner.second in
     let first = sum_and_difference outer.first inner.first in
     let l = summed_share outer.second inner.second in
     let f = summed_share outer.first inner.first in
-    let m = turned_16 last.second first.second in (
-      omega (arith, few, o.1, i.1, l.0),
-      omega (arith, few, o.0, o.1, i.0, i.1, l.1, f.1, m.1),
-      omega (arith, few, o.0, o.1, i.0, i.1, l.1, f.1, m.0),
-      omega (arith, few, o.0, i.0, f.0),
+    let t = rotated_share n last.second first.second n_angle in (
+      omega (arith, o.1, i.1, l.0),
+      omega (arith, o.0, o.1, i.0, i.1, l.1, f.1, t.1),
+      omega (arith, o.0, o.1, i.0, i.1, l.1, f.1, t.0),
+      omega (arith, o.0, i.0, f.0),
     )
 
+pub angle_28 : IsAngle 28
+angle_28 = (leb-true (unsigned_abs (cosine_of 28)) (2 ^ 14) refl, leb-true (unsigned_abs (sine_of 28)) (2 ^ 14) refl)
+
+pub angle_12 : IsAngle 12
+angle_12 = (leb-true (unsigned_abs (cosine_of 12)) (2 ^ 14) refl, leb-true (unsigned_abs (sine_of 12)) (2 ^ 14) refl)
+
+pub angle_16 : IsAngle 16
+angle_16 = (leb-true (unsigned_abs (cosine_of 16)) (2 ^ 14) refl, leb-true (unsigned_abs (sine_of 16)) (2 ^ 14) refl)
+
+pub angle_30 : IsAngle 30
+angle_30 = (leb-true (unsigned_abs (cosine_of 30)) (2 ^ 14) refl, leb-true (unsigned_abs (sine_of 30)) (2 ^ 14) refl)
+
+pub angle_14 : IsAngle 14
+angle_14 = (leb-true (unsigned_abs (cosine_of 14)) (2 ^ 14) refl, leb-true (unsigned_abs (sine_of 14)) (2 ^ 14) refl)
+
+pub angle_24 : IsAngle 24
+angle_24 = (leb-true (unsigned_abs (cosine_of 24)) (2 ^ 14) refl, leb-true (unsigned_abs (sine_of 24)) (2 ^ 14) refl)
+
+pub angle_6 : IsAngle 6
+angle_6 = (leb-true (unsigned_abs (cosine_of 6)) (2 ^ 14) refl, leb-true (unsigned_abs (sine_of 6)) (2 ^ 14) refl)
+
+pub angle_22 : IsAngle 22
+angle_22 = (leb-true (unsigned_abs (cosine_of 22)) (2 ^ 14) refl, leb-true (unsigned_abs (sine_of 22)) (2 ^ 14) refl)
+
+pub angle_56 : IsAngle 56
+angle_56 = (leb-true (unsigned_abs (cosine_of 56)) (2 ^ 14) refl, leb-true (unsigned_abs (sine_of 56)) (2 ^ 14) refl)
+
+odd_small : (a b c d : ℤ) → four_magnitudes a b c d ≤ 2 ^ 15 → AreSmall (odd_quad 28 12 16 a b c d)
+odd_small a b c d few =
+    let s = odd_share 28 12 16 a b c d angle_28 angle_12 angle_16 in
+    (omega (arith, few, s.0), omega (arith, few, s.1), omega (arith, few, s.2), omega (arith, few, s.3))
+
 -- the values that the even and the odd places make together
-abbrev oct : Four → Four → List ℤ
+abbrev pub oct : Four → Four → List ℤ
 oct e o =
     (sum_and_difference e.first o.first).first ∷ (sum_and_difference e.second o.second).first
     ∷ (sum_and_difference e.third o.third).first ∷ (sum_and_difference e.fourth o.fourth).first
     ∷ (sum_and_difference e.fourth o.fourth).second ∷ (sum_and_difference e.third o.third).second
     ∷ (sum_and_difference e.second o.second).second ∷ (sum_and_difference e.first o.first).second ∷ []
 
-abbrev evens : List ℤ → Four
+abbrev pub evens : List ℤ → Four
 evens xs = dct_quad (at xs 0) (at xs 2) (at xs 4) (at xs 6)
 
-abbrev odds : List ℤ → Four
-odds xs = odd_quad (at xs 1) (at xs 3) (at xs 5) (at xs 7)
+abbrev pub odds : List ℤ → Four
+odds xs = odd_quad 28 12 16 (at xs 1) (at xs 3) (at xs 5) (at xs 7)
 
 eight_values : (xs : List ℤ) → length xs ≡ 8 → loose FLOW_DCT_8 xs ≡ oct (evens xs) (odds xs)
 unfolding dct_quad odd_quad
@@ -139,7 +200,7 @@ eight_values (a ∷ b ∷ c ∷ d ∷ e ∷ f ∷ g ∷ []) size = absurd (omega
 eight_values (a ∷ b ∷ c ∷ d ∷ e ∷ f ∷ g ∷ h ∷ []) size = refl
 eight_values (a ∷ b ∷ c ∷ d ∷ e ∷ f ∷ g ∷ h ∷ i ∷ xs) size = absurd (omega (arith, size))
 
-straight : (limit : ℕ) (xs : List ℤ) → 2 ^ 15 ≤ limit → length xs ≡ 8 → magnitude xs ≤ 2 ^ 15 →
+pub straight : (limit : ℕ) (xs : List ℤ) → 2 ^ 15 ≤ limit → length xs ≡ 8 → magnitude xs ≤ 2 ^ 15 →
     dct limit 3 xs ≡ Ok (oct (evens xs) (odds xs))
 unfolding dct IsCalm
 straight limit xs most size few =
@@ -182,22 +243,22 @@ pub record OctMade (t : List (List ℤ)) (e f g h p q r s : List ℤ) : Type 0 w
   pub size : length t ≡ 8
   pub few : (j : ℕ) → j < 8 → magnitude (column j t) ≤ 2 ^ 15
   pub even : FourLanes dct_quad (get_or t 0 []) (get_or t 2 []) (get_or t 4 []) (get_or t 6 []) e f g h 8
-  pub odd : FourLanes odd_quad (get_or t 1 []) (get_or t 3 []) (get_or t 5 []) (get_or t 7 []) p q r s 8
+  pub odd : FourLanes (odd_quad 28 12 16) (get_or t 1 []) (get_or t 3 []) (get_or t 5 []) (get_or t 7 []) p q r s 8
 
 abbrev even_of : List (List ℤ) → ℕ → Four
 even_of t j = dct_quad (at (get_or t 0 []) j) (at (get_or t 2 []) j) (at (get_or t 4 []) j) (at (get_or t 6 []) j)
 
 abbrev odd_of : List (List ℤ) → ℕ → Four
-odd_of t j = odd_quad (at (get_or t 1 []) j) (at (get_or t 3 []) j) (at (get_or t 5 []) j) (at (get_or t 7 []) j)
+odd_of t j = odd_quad 28 12 16 (at (get_or t 1 []) j) (at (get_or t 3 []) j) (at (get_or t 5 []) j) (at (get_or t 7 []) j)
 
-column_size : (t : List (List ℤ)) (j : ℕ) → length t ≡ 8 → length (column j t) ≡ 8
+pub column_size : (t : List (List ℤ)) (j : ℕ) → length t ≡ 8 → length (column j t) ≡ 8
 column_size t j size = length-map t (λ row. at row j) ∙ size
 
 even_is : (t : List (List ℤ)) (j : ℕ) → length t ≡ 8 → evens (column j t) ≡ even_of t j
 even_is t j size = four_of_column dct_quad t 0 2 4 6 (omega (arith, size)) (omega (arith, size)) (omega (arith, size)) (omega (arith, size)) j
 
 odd_is : (t : List (List ℤ)) (j : ℕ) → length t ≡ 8 → odds (column j t) ≡ odd_of t j
-odd_is t j size = four_of_column odd_quad t 1 3 5 7 (omega (arith, size)) (omega (arith, size)) (omega (arith, size)) (omega (arith, size)) j
+odd_is t j size = four_of_column (odd_quad 28 12 16) t 1 3 5 7 (omega (arith, size)) (omega (arith, size)) (omega (arith, size)) (omega (arith, size)) j
 
 evens_small : (t : List (List ℤ)) (j : ℕ) → length t ≡ 8 → magnitude (column j t) ≤ 2 ^ 15 → AreSmall (even_of t j)
 evens_small t j size few =
@@ -241,7 +302,7 @@ even_rows_small t e f g h p q r s o e_size f_size g_size h_size =
 pub odd_rows_small : (t : List (List ℤ)) (e f g h p q r s : List ℤ) → OctMade t e f g h p q r s →
     length p ≡ 8 → length q ≡ 8 → length r ≡ 8 → length s ≡ 8 → AreSmallRows p q r s
 odd_rows_small t e f g h p q r s o p_size q_size r_size s_size =
-    rows_small odd_quad (get_or t 1 []) (get_or t 3 []) (get_or t 5 []) (get_or t 7 []) p q r s p_size q_size r_size s_size o.odd
+    rows_small (odd_quad 28 12 16) (get_or t 1 []) (get_or t 3 []) (get_or t 5 []) (get_or t 7 []) p q r s p_size q_size r_size s_size o.odd
     (λ j low. odds_small t j o.size (o.few j low))
 
 -- the eight rows that are their sums and differences

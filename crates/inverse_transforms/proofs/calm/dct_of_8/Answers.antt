@@ -17,8 +17,8 @@ dct_lanes-requires-clause-c c = narrow_at c.args.t.now 4 (omega (arith, c.requir
 pub dct_lanes-requires-clause-d : goal.dct_lanes-requires-clause-d
 dct_lanes-requires-clause-d c = narrow_at c.args.t.now 6 (omega (arith, c.requires.size)) (λ j low. magnitude_bounds (2 ^ 15) (column j c.args.t.now) (c.requires.few j low))
 
-pub odd_lanes-requires : goal.odd_lanes-requires
-odd_lanes-requires c = record { few = odds_few c.args.t.now c.requires.size c.requires.few }
+pub odd_lanes-requires-clause-few : goal.odd_lanes-requires-clause-few
+odd_lanes-requires-clause-few c = odds_few c.args.t.now c.requires.size c.requires.few
 
 pub added_lanes-requires-clause-x : goal.added_lanes-requires-clause-x
 added_lanes-requires-clause-x c =

@@ -1,4 +1,4 @@
-use Rattle.std.proofs.Common.{rules, refl, ◌^◌, arith}
+use Rattle.std.proofs.Common.{rules, refl, ◌^◌, arith, slice_index}
 use Rattle.inverse_transforms.specs.Straight.{odd_quad}
 use Rattle.inverse_transforms.proofs.LaneLemmas.{four_begin, four_step, four_end, FourSmall, FourFits}
 use Rattle.inverse_transforms.proofs.narrow.odd_lanes.Goals as goal
@@ -16,7 +16,7 @@ loop-j-preserved c =
       third = omega (arith, c.requires.few c.loop-j.j low);
       fourth = omega (arith, c.requires.few c.loop-j.j low);
     } in
-    four_step (2 ^ 15) odd_quad c.args.a.now c.args.b.now c.args.c.now c.args.d.now
+    four_step (2 ^ 15) (odd_quad (slice_index c.args.angles 0) (slice_index c.args.angles 1) (slice_index c.args.angles 2)) c.args.a.now c.args.b.now c.args.c.now c.args.d.now
     _ _ _ _ _ _ _ c.odd_quad-v.result in_i32 low small c.odd_quad-v.ensures c.four_fit-fit.ensures c.loop-j.invariant
 
 pub returns-clause-made : goal.returns-clause-made
