@@ -3,7 +3,6 @@ use Rattle.std.proofs.Common.{◌≡◌, ℕ, zero, suc, ◌+◌, ◌*◌, ◌<�
 use Rattle.std.proofs.lemmas.List.{length-map}
 use Rattle.std.proofs.lemmas.List.Elements.{All-set}
 use Rattle.vp9_tables.specs.declared.data.flows.TheConstants.{FLOW_DCT_16}
-use Rattle.inverse_transforms.specs.declared.values.Two.{Two}
 use Rattle.inverse_transforms.specs.declared.values.Four.{Four}
 use Rattle.inverse_transforms.specs.Flow.{at, magnitude, run_flow, rotated, sum_and_difference, IsCalm}
 use Rattle.inverse_transforms.specs.LaneColumns.{column, TwoLanes, FourLanes}

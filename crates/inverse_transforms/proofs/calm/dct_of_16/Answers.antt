@@ -1,4 +1,4 @@
-use Rattle.std.proofs.Common.{rules, refl, arith, [], length}
+use Rattle.std.proofs.Common.{rules, []}
 use Rattle.inverse_transforms.proofs.StraightSixteen.{Sixteen, even_few, even_small, sixteen_given, sixteen_small}
 use Rattle.inverse_transforms.proofs.calm.dct_of_16.Goals as goal
 

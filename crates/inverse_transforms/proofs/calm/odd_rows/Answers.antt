@@ -1,6 +1,6 @@
-use Rattle.std.proofs.Common.{rules, arith, subst, ◌^◌}
+use Rattle.std.proofs.Common.{rules, arith, subst}
 use Rattle.inverse_transforms.specs.Flow.{rotated}
-use Rattle.inverse_transforms.specs.LaneColumns.{column, TwoLanes}
+use Rattle.inverse_transforms.specs.LaneColumns.{TwoLanes}
 use Rattle.inverse_transforms.proofs.StraightSixteen.{OddQuads, OddSums, OddRows, sizes_few, first_small, last_small, turned_narrow, odd_given, odd_small}
 use Rattle.inverse_transforms.proofs.calm.odd_rows.Goals as goal
 
