@@ -11,3 +11,5 @@ pub mod CalmColumns
 pub mod RenamedTables
 pub mod CalmTables
 pub mod Straight
+pub mod StraightEight
+pub mod StraightSixteen

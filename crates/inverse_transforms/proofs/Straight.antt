@@ -33,7 +33,7 @@ loosely (Sum a b) xs = two_put xs a b (sum_and_difference (at xs a) (at xs b))
 loosely (Neg a) xs = set xs a (neg_ℤ (at xs a))
 loosely (Wide a b k c d m) xs = four_put xs a b c d (rotated_wide 0 k m (at xs a) (at xs b) (at xs c) (at xs d))
 
-abbrev loose : List FlowRow → List ℤ → List ℤ
+abbrev pub loose : List FlowRow → List ℤ → List ℤ
 loose [] xs = xs
 loose (row ∷ rows) xs = loose rows (loosely row xs)
 
@@ -55,7 +55,7 @@ then_loosely : (r : Result (List ℤ) Rule) (f : List ℤ → Result (List ℤ) 
 then_loosely (Ok zs) f row rows xs ys first rest h = ap (loose rows) (first zs refl) ∙ rest zs h
 then_loosely (Err rule) f row rows xs ys first rest h = let no : ⊥ = cc in absurd no
 
-run_loosely : (limit : ℕ) (rows : List FlowRow) (xs ys : List ℤ) → run_flow limit rows xs ≡ Ok ys → loose rows xs ≡ ys
+pub run_loosely : (limit : ℕ) (rows : List FlowRow) (xs ys : List ℤ) → run_flow limit rows xs ≡ Ok ys → loose rows xs ≡ ys
 run_loosely limit [] xs ys h = cc
 run_loosely limit (row ∷ rows) xs ys h =
     then_loosely (flow_step limit row xs) (run_flow limit rows) row rows xs ys (λ zs is. step_loosely limit row xs zs is) (λ zs is. run_loosely limit rows zs ys is) h
@@ -80,7 +80,7 @@ straight limit xs most size few =
     let gives : run_flow limit FLOW_DCT_4 xs ≡ Ok given.0 = given.1 limit most in
     gives ∙ ap Ok (sym (run_loosely limit FLOW_DCT_4 xs given.0 gives) ∙ four_values xs size)
 
-abbrev AreSmall : Four → Type 0
+abbrev pub AreSmall : Four → Type 0
 AreSmall w = IsSmall w.first × IsSmall w.second × IsSmall w.third × IsSmall w.fourth
 
 put_small : (xs : List ℤ) (w : Four) → length xs ≡ 4 → All IsSmall (four_put xs 0 1 2 3 w) → AreSmall w
@@ -92,7 +92,7 @@ put_small (a ∷ b ∷ c ∷ d ∷ []) w size small =
     (small 0 (pos 0) (omega arith), small 1 (pos 0) (omega arith), small 2 (pos 0) (omega arith), small 3 (pos 0) (omega arith))
 put_small (a ∷ b ∷ c ∷ d ∷ e ∷ xs) w size small = absurd (omega (arith, size))
 
-quad_small : (xs : List ℤ) → length xs ≡ 4 → magnitude xs ≤ 2 ^ 15 → AreSmall (quad_of xs)
+pub quad_small : (xs : List ℤ) → length xs ≡ 4 → magnitude xs ≤ 2 ^ 15 → AreSmall (quad_of xs)
 quad_small xs size few =
     let small : All IsSmall xs = λ k d low. omega (arith, magnitude_bounds (2 ^ 15) xs few k d low) in
     put_small xs (quad_of xs) size

@@ -1,19 +1,19 @@
 //! A flow on eight columns of narrow values, whose products are within 32 bits.
 
-ghost use Rattle.std.specs.Prelude.{◌≡◌, ℕ, ◌^◌, ◌≤◌, ◌<◌, length, unsigned_abs, IsTrue, All};
+ghost use Rattle.std.specs.Prelude.{◌≡◌, ℕ, ◌+◌, ◌^◌, ◌≤◌, ◌<◌, length, slice_index, unsigned_abs, IsTrue, All};
 ghost use Rattle.std.specs.List.{list_all};
 ghost use Rattle.std.specs.Bool.{OnTrue};
 ghost use Rattle.inverse_transforms.specs.Flow.{at, flow_step, run_flow, store_two, rotated, turned_x, turned_y, is_within};
 ghost use Rattle.inverse_transforms.specs.LaneColumns.{GivesColumns, TwoLanes, FourLanes, AllHold, column};
 ghost use Rattle.inverse_transforms.specs.Flow.{two_fit, four_fit};
-ghost use Rattle.inverse_transforms.specs.Straight.{dct_quad};
+ghost use Rattle.inverse_transforms.specs.Straight.{dct_quad, odd_quad};
 ghost use Rattle.inverse_transforms.specs.Ranges.{IsSmall, IsNarrow};
 
 use crate::kernels::{four_fit, two_fit};
 use crate::lane_steps;
 use crate::lanes::{FourRows, Lanes, TwoRows};
 use crate::numbers::{minus, narrow_product, narrow_rounded, plus};
-use crate::quads::dct_quad;
+use crate::quads::{dct_quad, odd_quad};
 use crate::turn::Turn;
 use crate::values::Two;
 use vp9_tables::FlowRow;
@@ -94,6 +94,31 @@ pub fn dct_lanes(a: &Lanes, b: &Lanes, c: &Lanes, d: &Lanes) -> FourRows
     let mut fit = true;
     for j in 0..8usize {
         let v = dct_quad(a[j], b[j], c[j], d[j]);
+        p[j] = v.first;
+        q[j] = v.second;
+        r[j] = v.third;
+        s[j] = v.fourth;
+        fit = fit & four_fit(v, LIMIT);
+    }
+    (p, q, r, s, fit)
+}
+
+#[inline(always)]
+pub fn odd_lanes(a: &Lanes, b: &Lanes, c: &Lanes, d: &Lanes, angles: [u8; 3]) -> FourRows
+    requires few { (j : ℕ) → j < 8 → unsigned_abs (at a.now j) + unsigned_abs (at b.now j) + unsigned_abs (at c.now j) + unsigned_abs (at d.now j) ≤ 2 ^ 15 }
+    requires first { slice_index angles 0 < 128 }
+    requires second { slice_index angles 1 < 128 }
+    requires third { slice_index angles 2 < 128 }
+    ensures made { FourLanes (odd_quad (slice_index angles 0) (slice_index angles 1) (slice_index angles 2)) a.now b.now c.now d.now result.0 result.1 result.2 result.3 8 }
+    ensures fit { AllHold (λ j. four_fit (2 ^ 15) (odd_quad (slice_index angles 0) (slice_index angles 1) (slice_index angles 2) (at a.now j) (at b.now j) (at c.now j) (at d.now j))) 8 result.4 }
+{
+    let mut p = [0; 8];
+    let mut q = [0; 8];
+    let mut r = [0; 8];
+    let mut s = [0; 8];
+    let mut fit = true;
+    for j in 0..8usize {
+        let v = odd_quad(a[j], b[j], c[j], d[j], angles);
         p[j] = v.first;
         q[j] = v.second;
         r[j] = v.third;

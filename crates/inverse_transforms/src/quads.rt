@@ -1,10 +1,10 @@
 //! The transforms of four values that are written as formulas.
 
-ghost use Rattle.std.specs.Prelude.{◌≡◌, ◌+◌, ◌*◌, ◌^◌, ◌≤◌, ◌<◌, ◌&&◌, unsigned_abs, length, All};
+ghost use Rattle.std.specs.Prelude.{◌≡◌, ◌+◌, ◌*◌, ◌^◌, ◌≤◌, ◌<◌, ◌&&◌, unsigned_abs, length, slice_index, All};
 ghost use Rattle.std.specs.Int.{int_shr};
 ghost use Rattle.inverse_transforms.specs.Flow.{wide, Gives};
 ghost use Rattle.inverse_transforms.specs.Transforms.{even_part, odd_part, middle_part, difference_part, adst_quad, adst_of_4, last_lifts, middle_lifts, first_lifts, wht_quad, wht};
-ghost use Rattle.inverse_transforms.specs.Straight.{dct_quad};
+ghost use Rattle.inverse_transforms.specs.Straight.{dct_quad, odd_quad};
 ghost use Rattle.inverse_transforms.specs.Ranges.{IsSmall, IsNarrow, fits};
 
 use crate::kernels::sum_and_difference;
@@ -107,6 +107,30 @@ pub fn dct_quad(x0: i32, x1: i32, x2: i32, x3: i32) -> Four
         second: inner.first,
         third: inner.second,
         fourth: outer.second,
+    }
+}
+
+/// What a DCT makes of four values in odd places, by three angles.
+#[inline(always)]
+#[tactic(auto, unfolding(crate::specs::Straight::odd_quad))]
+pub fn odd_quad(a: i32, b: i32, c: i32, d: i32, angles: [u8; 3]) -> Four
+    requires few { unsigned_abs a + unsigned_abs b + unsigned_abs c + unsigned_abs d ≤ 2 ^ 15 }
+    requires first { slice_index angles 0 < 128 }
+    requires second { slice_index angles 1 < 128 }
+    requires third { slice_index angles 2 < 128 }
+    ensures { result ≡ odd_quad (slice_index angles 0) (slice_index angles 1) (slice_index angles 2) a b c d }
+{
+    let outer = rotated(a, d, Turn::by(angles[0]));
+    let inner = rotated(c, b, Turn::by(angles[1]));
+    let last = sum_and_difference(outer.second, inner.second);
+    let first = sum_and_difference(outer.first, inner.first);
+    let middle = rotated(last.second, first.second, Turn::by(angles[2]));
+    Four {
+        in_range: true,
+        first: last.first,
+        second: middle.second,
+        third: middle.first,
+        fourth: first.first,
     }
 }
 

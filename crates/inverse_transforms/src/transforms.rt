@@ -55,6 +55,36 @@ fn dct_columns_of_4(t: &mut [Lanes], depth: Depth) -> Result<(), Rule>
     flow_columns(t, rows::dct_rows(2), rows::dct_calm(2), depth)
 }
 
+/// The DCTs of eight columns of eight rows.
+#[inline(never)]
+fn dct_columns_of_8(t: &mut [Lanes], depth: Depth) -> Result<(), Rule>
+    requires size { length t.old ≡ 8 }
+    requires small { All (All IsSmall) t.old }
+    ensures gives { GivesColumns (dct (limit_of depth) 3) result t.old t.new }
+    ensures small { All (All IsSmall) t.new }
+{
+    if heaviest(&t[..8]) <= 32768 {
+        calm::dct_of_8(t);
+        return Ok(());
+    }
+    flow_columns(t, rows::dct_rows(3), rows::dct_calm(3), depth)
+}
+
+/// The DCTs of eight columns of sixteen rows.
+#[inline(never)]
+fn dct_columns_of_16(t: &mut [Lanes], depth: Depth) -> Result<(), Rule>
+    requires size { length t.old ≡ 16 }
+    requires small { All (All IsSmall) t.old }
+    ensures gives { GivesColumns (dct (limit_of depth) 4) result t.old t.new }
+    ensures small { All (All IsSmall) t.new }
+{
+    if heaviest(&t[..16]) <= 16384 {
+        calm::dct_of_16(t);
+        return Ok(());
+    }
+    flow_columns(t, rows::dct_rows(4), rows::dct_calm(4), depth)
+}
+
 /// The DCTs of eight columns of `2 ^ log2` rows.
 pub fn dct_columns(log2: u8, t: &mut [Lanes], depth: Depth) -> Result<(), Rule>
     requires least { 2 ≤ log2 }
@@ -66,6 +96,12 @@ pub fn dct_columns(log2: u8, t: &mut [Lanes], depth: Depth) -> Result<(), Rule>
 {
     if log2 == 2 {
         return dct_columns_of_4(t, depth);
+    }
+    if log2 == 3 {
+        return dct_columns_of_8(t, depth);
+    }
+    if log2 == 4 {
+        return dct_columns_of_16(t, depth);
     }
     flow_columns(t, rows::dct_rows(log2), rows::dct_calm(log2), depth)
 }
