@@ -1,6 +1,6 @@
 -- Rows of a plane, and the bands that they lie in.
 use Rattle.std.proofs.Common.{◌≡◌, ◌<◌, ◌≤◌, ◌+◌, ◌*◌, ◌/◌, ℕ, Bool, true, false, refl, arith}
-use Rattle.vp9_types.specs.Shapes.{halved, subsampled_size, plane_height, plane_width, coded_height, coded_width, bands_of}
+use Rattle.vp9_types.specs.Shapes.{halved, subsampled_size, plane_height, coded_height, bands_of}
 use Rattle.vp9_types.specs.declared.shape.Plane.{Plane}
 use Rattle.vp9_types.specs.declared.shape.Plane.TheVariants.{Y, U, V}
 use Rattle.vp9_types.specs.declared.shape.Shape.{Shape}
@@ -22,11 +22,6 @@ pub shown_rows : (shape : Shape) (p : Plane) → plane_height shape p ≤ coded_
 shown_rows shape Y = within false shape.h
 shown_rows shape U = within shape.ss_y shape.h
 shown_rows shape V = within shape.ss_y shape.h
-
-pub shown_columns : (shape : Shape) (p : Plane) → plane_width shape p ≤ coded_width shape p
-shown_columns shape Y = within false shape.w
-shown_columns shape U = within shape.ss_x shape.w
-shown_columns shape V = within shape.ss_x shape.w
 
 band_of : (sub : Bool) (h y : ℕ) → y < subsampled_size h sub → y / halved sub 64 < (h + 63) / 64
 band_of true h y low = omega (arith, low)

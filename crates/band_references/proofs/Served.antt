@@ -1,14 +1,10 @@
 -- References that have the bands that are needed serve the blocks.
 use Rattle.std.proofs.Common.{◌≡◌, ◌<◌, ◌≤◌, ◌-◌, ◌*◌, ◌/◌, Bool, true, false, ℕ, List, Option, Some, None, IfSome, refl, sym, arith, subst, le_refl, if◌then◌else◌}
 use Rattle.std.specs.List.{All}
-use Rattle.std.specs.Option.{option_map}
 use Rattle.std.proofs.lemmas.List.Elements.{All-weaker}
-use Rattle.vp9_types.specs.Maps.{FrameMap, IsAtMost}
-use Rattle.vp9_types.specs.Shapes.{halved, mi_rows, plane_height, plane_width, coded_width}
-use Rattle.vp9_types.specs.Sizes.{greatest}
+use Rattle.vp9_types.specs.Maps.{FrameMap}
+use Rattle.vp9_types.specs.Shapes.{halved, mi_rows, plane_height}
 use Rattle.vp9_types.specs.declared.block.ReferenceFrame.{ReferenceFrame}
-use Rattle.vp9_types.specs.declared.block.ReferenceFrame.TheVariants.{Last, Golden, Altref}
-use Rattle.vp9_types.specs.declared.job.BandSpan.{BandSpan}
 use Rattle.vp9_types.specs.declared.shape.Plane.{Plane}
 use Rattle.vp9_types.specs.declared.shape.Plane.TheVariants.{Y}
 use Rattle.vp9_types.specs.declared.shape.Shape.{Shape}
@@ -21,8 +17,6 @@ use Rattle.inter_places.proofs.Orders.{place_order}
 use Rattle.inter_places.specs.Axes.{first_place, last_place}
 use Rattle.inter_places.specs.Places.{IsReference, parts_of, place_of}
 use Rattle.inter_places.specs.declared.part.BlockPart.{BlockPart}
-use Rattle.band_cells.specs.Bands.{Picture}
-use Rattle.band_cells.specs.Code.{IsRowWithin}
 use Rattle.band_needs.proofs.Exact.{block_lies}
 use Rattle.band_needs.specs.Needs.{needs_of}
 use Rattle.band_needs.specs.Ranges.{needs_at}
@@ -30,13 +24,10 @@ use Rattle.band_needs.specs.BandReads.{part_in, ListLiesIn, BlockLiesIn}
 use Rattle.band_needs.specs.declared.ranges.BandNeeds.{BandNeeds}
 use Rattle.band_needs.specs.declared.ranges.BandRange.{BandRange}
 use Rattle.block_rebuild.proofs.Parts.{row_held}
-use Rattle.block_rebuild.specs.Code.{IsServed, AreServed, reference_of}
-use Rattle.block_rebuild.specs.declared.references.ReferencePicture.{ReferencePicture}
+use Rattle.block_rebuild.specs.Code.{IsServed, AreServed}
 use Rattle.block_rebuild.specs.declared.references.Rebuilding.{Rebuilding}
-use Rattle.band_references.proofs.Heights.{same_height, shown_rows, shown_columns, some_length}
+use Rattle.band_references.proofs.Heights.{same_height, shown_rows, some_length}
 use Rattle.band_references.specs.BandReferences.{IsRowOfBands, IsThere, AreThere}
-use Rattle.band_references.specs.Code.{span_of, spans_of, held_in, width_in, map_in, IsBySpan, AreBySpans}
-use Rattle.band_references.specs.declared.spans.ReferenceNumbers.{ReferenceNumbers}
 
 some_parts : (ss_y ss_x below : Bool) → 0 < (if below then halved ss_y 2 * halved ss_x 2 else 1)
 some_parts true true true = omega arith
@@ -117,41 +108,3 @@ module _ {S : Type 0} (holds : S → Plane → ℕ → Type 0) (width : S → Pl
       (λ b lies. block_served shapes (needs_of by.shape shapes blocks) b b.prediction there lies)
       blocks
       (block_lies by.shape shapes blocks inside)
-
----- Bands that were looked up ----
-
-module _ (pictures : ℕ → Picture) (by : Rebuilding BandSpan) where
-  span_is_there : (reference : ReferenceFrame) (shape : Shape) (frame : ℕ) (needed : Option BandRange)
-      → IfSome (option_map (span_of frame) needed) (λ span. (r : ReferencePicture BandSpan) × (reference_of by reference ≡ Some r) × (r.shape ≡ shape) × IsBySpan pictures by.shape span r)
-      → IfSome needed (IsThere (held_in pictures) (width_in pictures) (map_in pictures) by reference shape)
-  span_is_there reference shape frame None is = is
-  span_is_there reference shape frame (Some bands) is =
-      let r = is.0 in
-      let by_span = is.3 in (
-        r,
-        is.1,
-        is.2,
-        record {
-          reference = by_span.reference;
-          held = λ p y row. subst (λ (s : BandSpan). held_in pictures s p y) (sym by_span.bands) (has_row r.shape (pictures frame).shape bands p y by_span.same row);
-          wide = λ p. subst (λ (s : BandSpan). plane_width r.shape p ≤ width_in pictures s p) (sym by_span.bands)
-              (subst (λ (s : Shape). plane_width r.shape p ≤ coded_width s p) by_span.same (shown_columns r.shape p));
-          range = λ p. subst (λ (s : BandSpan). IsAtMost (greatest by.shape.depth) (map_in pictures s p)) (sym by_span.bands) (by_span.range p);
-        },
-      )
-    where
-      has_row : (s t : Shape) (bands : BandRange) (p : Plane) (y : ℕ) → s ≡ t → IsRowOfBands s bands p y → IsRowWithin t (span_of frame bands) p y
-      has_row s t bands p y same row =
-          subst (λ (z : Shape). IsRowWithin z (span_of frame bands) p y) same (record { inside = row.inside; from = row.from; to = row.to })
-
-  spans_are_there : (shapes : ReferenceFrame → Shape) (needs : BandNeeds) (numbers : ReferenceNumbers) → AreBySpans pictures by shapes (spans_of needs numbers)
-      → AreThere (held_in pictures) (width_in pictures) (map_in pictures) by shapes needs
-  spans_are_there shapes needs numbers are Last = span_is_there Last (shapes Last) numbers.last needs.last (are Last)
-  spans_are_there shapes needs numbers are Golden = span_is_there Golden (shapes Golden) numbers.golden needs.golden (are Golden)
-  spans_are_there shapes needs numbers are Altref = span_is_there Altref (shapes Altref) numbers.altref needs.altref (are Altref)
-
-  pub served_by_spans : (shapes : ReferenceFrame → Shape) (numbers : ReferenceNumbers) (blocks : List BlockInfo) → All (λ b. b.row < mi_rows by.shape) blocks
-      → AreBySpans pictures by shapes (spans_of (needs_of by.shape shapes blocks) numbers)
-      → All (λ b. AreServed (held_in pictures) (width_in pictures) (map_in pictures) by b b.prediction) blocks
-  served_by_spans shapes numbers blocks inside are =
-      blocks_served (held_in pictures) (width_in pictures) (map_in pictures) by shapes blocks inside (spans_are_there shapes (needs_of by.shape shapes blocks) numbers are)

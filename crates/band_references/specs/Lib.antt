@@ -1,2 +1,1 @@
 pub mod BandReferences
-pub mod Code

@@ -4,7 +4,6 @@ ghost use Rattle.std.specs.Prelude.{◌≡◌, ◌<◌, ◌≤◌, ℕ, List, So
 ghost use Rattle.std.specs.List.{All};
 ghost use Rattle.vp9_types.specs.Shapes.{mi_rows, bands_of};
 ghost use Rattle.vp9_types.specs.declared.block.ReferenceFrame.{ReferenceFrame};
-ghost use Rattle.vp9_types.specs.declared.job.BandSpan.{BandSpan as Bands};
 ghost use Rattle.vp9_types.specs.declared.shape.Shape.{Shape};
 ghost use Rattle.block_plan.specs.declared.block.BlockInfo.{BlockInfo};
 ghost use Rattle.inter_places.specs.Places.{IsReference};
@@ -14,10 +13,7 @@ ghost use Rattle.band_needs.specs.declared.ranges.BandRange.{BandRange};
 ghost use Rattle.block_rebuild.specs.Code.{AreServed};
 ghost use Rattle.block_rebuild.specs.declared.references.Rebuilding.{Rebuilding};
 ghost use Rattle.band_references.specs.BandReferences.{AreThere};
-ghost use Rattle.band_references.specs.Code.{spans_of, held_in, width_in, map_in, AreBySpans};
-ghost use Rattle.band_references.specs.declared.spans.ReferenceNumbers.{ReferenceNumbers};
 
-use band_cells::Meaning;
 use vp9_types::Samples;
 
 /// References that have the bands that a row of blocks needs serve each of the blocks, whatever else they have: they hold all
@@ -26,13 +22,6 @@ pub fn bands_serve_blocks<S: Samples>()
     ensures { (by : Rebuilding S) (shapes : ReferenceFrame → Shape) (blocks : List BlockInfo) → All (λ b. b.row < mi_rows by.shape) blocks →
         AreThere S.holds S.width S.map by shapes (needs_of by.shape shapes blocks) →
         All (λ b. AreServed S.holds S.width S.map by b b.prediction) blocks }
-{}
-
-/// So do bands that were looked up by the spans that are needed of a run's pictures: `BandRows` has what is asked for here.
-pub fn looked_up_bands_serve_blocks<M: Meaning>()
-    ensures { (by : Rebuilding Bands) (shapes : ReferenceFrame → Shape) (numbers : ReferenceNumbers) (blocks : List BlockInfo) → All (λ b. b.row < mi_rows by.shape) blocks →
-        AreBySpans M.pictures by shapes (spans_of (needs_of by.shape shapes blocks) numbers) →
-        All (λ b. AreServed (held_in M.pictures) (width_in M.pictures) (map_in M.pictures) by b b.prediction) blocks }
 {}
 
 /// The bands that blocks need of a reference are bands of its frame, so they can be looked up.

@@ -57,7 +57,7 @@ decode_app =
 abbrev pub given_rule : Text → ℕ → ℕ → Rule
 given_rule name low high = record (new_rule name) { required = true; parser = Some (value.Signed (pos low) (pos high)) }
 
--- a command that is told which stream is generated, as `make NUMBER FRAMES` and `trial NUMBER FRAMES`
+-- a command that is told which stream is made, as `make NUMBER FRAMES` and `trial NUMBER FRAMES`
 abbrev pub stream_app : Text → App
 stream_app name = with_rule (with_rule (new_app name) (given_rule (codes "number") 0 4294967295)) (given_rule (codes "frames") 1 1000)
 

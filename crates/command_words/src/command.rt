@@ -7,9 +7,9 @@ pub enum Command {
     List,
     /// The frames that are shown.
     Decode(DecodeOptions),
-    /// A generated stream.
+    /// A made stream.
     Make(MadeStream),
-    /// What a generated stream is decoded to, in a line.
+    /// What a made stream is decoded to, in a line.
     Trial(MadeStream),
 }
 
@@ -25,7 +25,7 @@ pub struct DecodeOptions {
     pub format: Format,
 }
 
-/// Which stream is generated.
+/// Which stream is made.
 #[derive(Clone, Copy, Debug, PartialEq, Eq)]
 pub struct MadeStream {
     /// The number that all of it is drawn from.

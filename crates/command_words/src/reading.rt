@@ -76,7 +76,7 @@ fn frames_word<'a>(alloc: Global) -> Arg<'a>
         .value_parser(frames)
 }
 
-/// The program with one command more, which is told which stream is generated.
+/// The program with one command more, which is told which stream is made.
 fn with_stream_command<'a>(
     alloc: Global,
     program: clap::Command<'a>,

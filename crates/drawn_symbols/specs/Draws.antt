@@ -1,4 +1,4 @@
--- The numbers that a generator of streams draws.
+-- The numbers that a made stream is drawn from.
 use Rattle.std.specs.Prelude.{◌≡◌, ℕ, ◌+◌, ◌*◌, ◌/◌, ◌%◌, ◌^◌, Bool, List, [], ◌∷◌, ◌++◌, length, slice_index_or, nat_eq}
 use Rattle.vp9_types.specs.Trees.{Tree, leaf, node}
 use Rattle.drawn_symbols.specs.declared.draws.Draws.{Draws}

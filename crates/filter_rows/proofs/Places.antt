@@ -33,13 +33,6 @@ room_for shape plane sr a is = subst (HasFilterRows shape plane sr) (sym is) (fi
 pub holds_rows : {X : Type 0} (shape : Shape) (sr : ℕ) (planes : FramePlanes X) → StandsAt shape sr planes → HoldsFilterRows shape sr planes
 holds_rows shape sr planes at = record { y = room_for shape Y sr planes.y.area at.y; u = room_for shape U sr planes.u.area at.u; v = room_for shape V sr planes.v.area at.v }
 
-rises : (sub : Bool) (room sr : ℕ) → min (halved sub (64 * sr) - 8) room ≤ min (halved sub (64 * (sr + 1)) - 8) room
-rises true room sr = omega arith
-rises false room sr = omega arith
-
-pub moves_down : (shape : Shape) (plane : Plane) (sr : ℕ) → buffer_start shape plane sr ≤ buffer_start shape plane (sr + 1)
-moves_down shape plane sr = rises (sub_y shape plane) (coded_height shape plane - buffer_rows shape plane) sr
-
 -- the pending rows of the next row of superblocks are in it before it moves, and behind
 pub pending_from : (shape : Shape) (plane : Plane) (sr y : ℕ) → first_changed shape plane sr ≤ y → buffer_start shape plane sr ≤ y
 pending_from shape plane sr y low = omega (arith, low)

@@ -1,9 +1,9 @@
--- What is put into the buffer, and what is taken out of it.
+-- What is put into the buffer, and what it goes on having.
 use Rattle.std.specs.Prelude.{ℕ, ◌<◌, ◌≤◌, ◌≡◌}
 use Rattle.vp9_types.specs.declared.shape.Plane.{Plane}
 use Rattle.vp9_types.specs.declared.shape.Shape.{Shape}
-use Rattle.vp9_types.specs.Maps.{Map, FrameMap}
-use Rattle.loop_filter.specs.Laws.{first_changed, first_own, lower_end_of, final_end}
+use Rattle.vp9_types.specs.Maps.{Map}
+use Rattle.loop_filter.specs.Laws.{first_changed, first_own, lower_end_of}
 
 -- A plane has the own rows of a row of superblocks from another one, and goes on having those above them.
 pub record HasPut (shape : Shape) (plane : Plane) (sr : ℕ) (from old new : Map) : Type 0 where
@@ -13,8 +13,3 @@ pub record HasPut (shape : Shape) (plane : Plane) (sr : ℕ) (from old new : Map
 -- It goes on having the rows that are pending for a row of superblocks.
 abbrev pub KeepsPending : Shape → Plane → ℕ → Map → Map → Type 0
 KeepsPending shape plane sr old new = (y x : ℕ) → first_changed shape plane sr ≤ y → y < first_own shape plane sr → new y x ≡ old y x
-
--- The rows that are final once a row of superblocks is filtered are taken over from a frame, and those above them stay.
-pub record HasTaken (shape : Shape) (sr : ℕ) (from old new : FrameMap) : Type 0 where
-  pub taken : (plane : Plane) (y x : ℕ) → first_changed shape plane sr ≤ y → y < final_end shape plane sr → new plane y x ≡ from plane y x
-  pub above : (plane : Plane) (y x : ℕ) → y < first_changed shape plane sr → new plane y x ≡ old plane y x

@@ -1,15 +1,12 @@
-//! The buffer: where it stands in a frame, and how it moves.
+//! The buffer: where it stands in a frame.
 
-ghost use Rattle.std.specs.Prelude.{◌≡◌, ◌<◌, ◌+◌, ℕ, List, IfOk};
-ghost use Rattle.vp9_types.specs.Maps.{FrameMap, IsAtMost};
-ghost use Rattle.vp9_types.specs.Shapes.{mi_rows};
-ghost use Rattle.vp9_types.specs.Sizes.{superblocks_along};
+ghost use Rattle.std.specs.Prelude.{◌≡◌, List, IfOk};
+ghost use Rattle.vp9_types.specs.Maps.{FrameMap};
 ghost use Rattle.block_plan.specs.declared.block.BlockInfo.{BlockInfo};
-ghost use Rattle.planes.specs.Planes.{IsArea, plane_map};
+ghost use Rattle.planes.specs.Planes.{IsArea};
 ghost use Rattle.planes.specs.Pictures.{FitsPlanes, samples_of, blank};
 ghost use Rattle.loop_edges.specs.declared.setting.EdgeSetting.{EdgeSetting};
-ghost use Rattle.filter_rows.specs.Buffer.{buffer_area, StandsAt, AwaitsRow, HasFiltered};
-ghost use Rattle.filter_rows.specs.Code.{KeepsPending};
+ghost use Rattle.filter_rows.specs.Buffer.{buffer_area, StandsAt, AwaitsRow};
 
 use loop_filter::sub_y;
 use planes::{Area, FramePlanes, SamplePlane, coded_area};
@@ -46,32 +43,4 @@ pub fn new_buffer<P: Sample>(alloc: Global, shape: &Shape) -> Result<FramePlanes
         u: SamplePlane::new(alloc, buffer_area(shape, Plane::U, 0))?,
         v: SamplePlane::new(alloc, buffer_area(shape, Plane::V, 0))?,
     })
-}
-
-// Moves a plane of the buffer down to the next row of superblocks.
-fn move_plane<P: Sample>(samples: &mut SamplePlane<P>, shape: &Shape, plane: Plane, sr: u32)
-    requires size { FitsPlanes shape.now }
-    requires row { sr < superblocks_along (mi_rows shape.now) }
-    requires place { samples.old.area ≡ buffer_area shape.now plane sr }
-    ensures place { samples.new.area ≡ buffer_area shape.now plane (sr + 1) }
-    ensures kept { KeepsPending shape.now plane (sr + 1) (plane_map samples.old) (plane_map samples.new) }
-    ensures range { (most : ℕ) → IsAtMost most (plane_map samples.old) → IsAtMost most (plane_map samples.new) }
-{
-    let next = buffer_area(shape, plane, sr + 1);
-    samples.move_down(next.first_row);
-}
-
-/// Moves the buffer down to the next row of superblocks, once the rows that are final are taken out. Behind the last row it
-/// moves to the end of the frame.
-pub fn move_to_next<P: Sample>(planes: &mut FramePlanes<P>, shape: &Shape, sr: u32)
-    requires size { FitsPlanes shape.now }
-    requires row { sr < superblocks_along (mi_rows shape.now) }
-    requires place { StandsAt shape.now sr planes.old }
-    ensures place { StandsAt shape.now (sr + 1) planes.new }
-    ensures next { (f : EdgeSetting) (blocks : List BlockInfo) (raw : FrameMap) → f.shape ≡ shape.now →
-        HasFiltered f blocks raw sr planes.old → AwaitsRow f blocks raw (sr + 1) planes.new }
-{
-    move_plane(&mut planes.y, shape, Plane::Y, sr);
-    move_plane(&mut planes.u, shape, Plane::U, sr);
-    move_plane(&mut planes.v, shape, Plane::V, sr);
 }

@@ -1,5 +1,5 @@
-//! A frame filtered in a buffer of a constant number of rows, one row of superblocks after another: the samples of each row
-//! are put in, the row is filtered, the rows that are final are taken out, and the buffer moves down.
+//! A frame filtered in buffers of a constant number of rows: the samples of a row of superblocks are put into its buffer, below
+//! rows that are pending, and the row is filtered. Then some rows are final, and others pending for the next row.
 #![tactic(auto)]
 
 mod buffer;
@@ -7,7 +7,7 @@ mod laws;
 mod round;
 mod strips;
 
-pub use buffer::{move_to_next, new_buffer};
+pub use buffer::new_buffer;
 pub use laws::bands_become_final;
-pub use round::{filter_by_rows, filter_next_row};
-pub use strips::{Strips, TakesRows};
+pub use round::filter_next_row;
+pub use strips::Strips;

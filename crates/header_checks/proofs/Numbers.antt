@@ -17,7 +17,7 @@ use Rattle.frame_headers.specs.declared.segments.FeatureReference.{FeatureRefere
 use Rattle.frame_headers.specs.declared.segments.FeatureReference.TheVariants.{Intra, Last, Golden, Altref}
 use Rattle.header_writer.specs.WellFormed.{IsSigned}
 use Rattle.header_checks.specs.Params.{is_delta}
-use Rattle.header_checks.specs.Same.{reference_number, same_deltas, space_number}
+use Rattle.header_checks.specs.Same.{feature_reference_number, same_deltas, space_number}
 
 abbrev depth_of : ℕ → Depth
 depth_of n = if nat_eq n 8 then Eight else (if nat_eq n 10 then Ten else Twelve)
@@ -59,13 +59,13 @@ reference_of (suc zero) = Last
 reference_of (suc (suc zero)) = Golden
 reference_of n = Altref
 
-reference_is : (reference : FeatureReference) → reference_of (reference_number reference) ≡ reference
+reference_is : (reference : FeatureReference) → reference_of (feature_reference_number reference) ≡ reference
 reference_is Intra = refl
 reference_is Last = refl
 reference_is Golden = refl
 reference_is Altref = refl
 
-pub same_reference_is : (reference other : FeatureReference) → reference_number reference ≡ reference_number other → reference ≡ other
+pub same_reference_is : (reference other : FeatureReference) → feature_reference_number reference ≡ feature_reference_number other → reference ≡ other
 same_reference_is reference other same =
     sym (reference_is reference) ∙ (ap (λ n. reference_of n) same ∙ reference_is other)
 

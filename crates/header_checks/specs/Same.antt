@@ -44,14 +44,14 @@ same_deltas deltas other = pointwise int_eq deltas.reference other.reference && 
 ---- Features ----
 
 -- the value of the feature (6.2.11)
-abbrev pub reference_number : FeatureReference → ℕ
-reference_number Intra = 0
-reference_number Last = 1
-reference_number Golden = 2
-reference_number Altref = 3
+abbrev pub feature_reference_number : FeatureReference → ℕ
+feature_reference_number Intra = 0
+feature_reference_number Last = 1
+feature_reference_number Golden = 2
+feature_reference_number Altref = 3
 
 abbrev pub same_reference : Option FeatureReference → Option FeatureReference → Bool
-same_reference (Some r) (Some s) = nat_eq (reference_number r) (reference_number s)
+same_reference (Some r) (Some s) = nat_eq (feature_reference_number r) (feature_reference_number s)
 same_reference (Some r) None = false
 same_reference None (Some s) = false
 same_reference None None = true

@@ -61,29 +61,28 @@ pub(crate) fn predict_tm<const N: usize>(
     let mut line = [0; 32];
     copy_lanes::<N>(&mut line[..N], &above[..N]);
     for i in 0..N {
-        true_motion_row(block, i * N, N, most, &line, left[i], corner);
+        true_motion_row::<N>(block, i * N, most, &line, left[i], corner);
     }
 }
 
 /// One row, which begins at place `at` of the block.
 #[inline(always)]
-fn true_motion_row(
+fn true_motion_row<const N: usize>(
     block: &mut [u16],
     at: usize,
-    size: usize,
     most: u16,
     above: &[u16],
     left: u16,
     corner: u16,
 )
-    requires room { at + size ≤ length block.old }
-    requires above { size ≤ length above.now }
-    requires small_above { (k : ℕ) → k < size → slice_index above.now k ≤ 4095 }
+    requires room { at + N ≤ length block.old }
+    requires above { N ≤ length above.now }
+    requires small_above { (k : ℕ) → k < N → slice_index above.now k ≤ 4095 }
     requires small_left { left ≤ 4095 }
-    ensures row { (j : ℕ) → j < size → slice_index block.new (at + j) ≡ min most (left + slice_index above.now j - corner) }
+    ensures row { (j : ℕ) → j < N → slice_index block.new (at + j) ≡ min most (left + slice_index above.now j - corner) }
     ensures before { (k : ℕ) → k < at → slice_index block.new k ≡ slice_index block.old k }
 {
-    for j in 0..size {
+    for j in 0..N {
         block[at + j] = (left + above[j]).saturating_sub(corner).min(most);
     }
 }

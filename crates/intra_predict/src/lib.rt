@@ -27,7 +27,7 @@ pub use laws::{edges_lie_around, samples_stay_in_range};
 pub use place::IntraPlace;
 pub use places::place_of;
 pub use prediction::predict;
-pub use put::{add_residue, put_block};
+pub use put::put_block;
 pub use reading::read_edges;
 pub use scratch::Scratch;
 pub use sizes::side_of;

@@ -2,28 +2,17 @@
 
 ghost use Rattle.std.specs.Prelude.{◌≡◌, ℕ, pos, ◌+◌, ◌*◌, ◌/◌, ◌<◌, ◌≤◌, ◌⊎◌, length, slice_index, slice_index_or};
 ghost use Rattle.vp9_types.specs.Maps.{rows_of};
-ghost use Rattle.vp9_types.specs.Sizes.{side, greatest};
+ghost use Rattle.vp9_types.specs.Sizes.{side};
 ghost use Rattle.planes.specs.Planes.{StartsIn, lower_end, right_end, plane_map};
 ghost use Rattle.intra_predict.specs.Residue.{IsResidue, with_residue};
 ghost use Rattle.vp9_types.specs.Sizes.{clip};
 ghost use Rattle.intra_predict.specs.Steps.{with_square};
 
-use crate::sizes::side_of;
 use crate::square::put_square;
 use planes::SamplePlane;
-use vp9_types::{Depth, Sample, TxSize};
+use vp9_types::{Sample, TxSize};
 
-/// Adds the residue of a block to its samples, and clips them to the depth.
-pub fn add_residue(block: &mut [u16], residue: &[i32], size: TxSize, depth: Depth)
-    requires room { length block.old ≡ side size * side size }
-    requires residue { IsResidue (side size * side size) residue.now }
-    ensures { (k : ℕ) → k < side size * side size →
-        slice_index block.new k ≡ with_residue (greatest depth) (slice_index block.old k) (slice_index_or residue.now k (pos 0)) }
-{
-    let side = side_of(size);
-    add_clipped(block, residue, side * side, depth.greatest());
-}
-
+/// Adds the residue of a block to its samples, and clips them.
 #[inline(always)]
 pub(crate) fn add_clipped(block: &mut [u16], residue: &[i32], n: usize, most: u16)
     requires room { length block.old ≡ n }

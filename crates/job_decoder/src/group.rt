@@ -82,27 +82,23 @@ fn decode_behind<
     ensures grows { K.grows (sink_of result) ≡ K.grows sink }
     ensures again { K.faults (sink_of result) ≡ K.faults sink → K.can_put (sink_of result) }
 {
-    let NextFrames {
-        format,
-        rate,
-        frames,
-    } = next;
     let Past {
         count,
         kept,
         frames: before,
     } = past;
-    let reached = count + frames.len() as u64;
+    let reached = count + next.frames.len() as u64;
     let behind = FramesBehind {
         before: &before,
-        frames: &frames,
+        frames: &next.frames,
     };
     let after = Tag::of::<FramesBehind<'_, '_>, Appended>(&behind);
+    let form = OutputForm::new(next.format, next.rate);
     let found = FoundFrames {
-        frames,
+        frames: next.frames,
         ending: None,
     };
-    let list: FrameList<'_, B> = FrameList::new(count, found, OutputForm::new(format, rate));
+    let list: FrameList<'_, B> = FrameList::new(count, found, form);
     let group = GroupFrames {
         list,
         kept,

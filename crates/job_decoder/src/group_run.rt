@@ -76,17 +76,12 @@ pub(crate) fn run_group<
     ensures grows { K.grows result.sink ≡ K.grows sink }
     ensures again { K.faults result.sink ≡ K.faults sink → K.can_put result.sink }
 {
-    let GroupFrames {
-        list,
-        kept,
-        reached,
-    } = group;
-    let first = list.first();
+    let first = group.list.first();
     let output: DecodeSink<K, B> = DecodeSink::new(alloc, sink);
-    let Ok(kept) = kept_beside::<B>(alloc, kept) else {
+    let Ok(kept) = kept_beside::<B>(alloc, group.kept) else {
         return without_memory(output);
     };
-    let jobs: JobDecoder<'_, 'a, B, R> = JobDecoder::new(rt, alloc, list, kept);
+    let jobs: JobDecoder<'_, 'a, B, R> = JobDecoder::new(rt, alloc, group.list, kept);
     let run = Run {
         alloc,
         jobs: &jobs,
@@ -110,7 +105,7 @@ pub(crate) fn run_group<
     let outcome = outcome_of(&ending);
     let DecodeSink { sink, .. } = output;
     let kept = match jobs.into_kept() {
-        Ok(old) => kept_behind::<B>(alloc, first, reached, results, old),
+        Ok(old) => kept_behind::<B>(alloc, first, group.reached, results, old),
         Err(_) => None,
     };
     GroupRan {

@@ -16,7 +16,8 @@ use Rattle.coef_tokens.specs.declared.step.Step.TheVariants.{End, Zero, Level}
 use Rattle.coef_tokens.specs.declared.tables.TokenKind.{TokenKind}
 use Rattle.bool_encoder.specs.CountedBools.{PutsValue}
 use Rattle.bool_encoder.proofs.CountedPuts.{value_by_counting}
-use Rattle.token_writer.specs.TokenFits.{PutsLevels, level_in}
+use Rattle.token_writer.specs.Code.{PutsLevels}
+use Rattle.token_writer.specs.TokenFits.{level_in}
 use Rattle.level_lists.specs.LevelLists.{spelled_levels_from, spelled_levels, spelled_place}
 use Rattle.level_lists.proofs.Counted.{settle_put, two_put}
 use Rattle.level_lists.proofs.LevelWays.{IsStep, step_way}

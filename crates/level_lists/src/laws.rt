@@ -8,7 +8,7 @@ ghost use Rattle.bool_lists.specs.BoolLists.{HasPut};
 ghost use Rattle.coef_tokens.specs.TokenKinds.{block_tables};
 ghost use Rattle.coef_tokens.specs.Places.{Tables};
 ghost use Rattle.coef_tokens.specs.declared.tables.TokenKind.{TokenKind};
-ghost use Rattle.token_writer.specs.TokenFits.{PutsLevels};
+ghost use Rattle.token_writer.specs.Code.{PutsLevels};
 ghost use Rattle.level_lists.specs.LevelLists.{spelled_levels};
 
 /// Whatever bools lead the tokens of a transform block to levels, they are those of its list: there is one way to put them, if

@@ -1,4 +1,3 @@
 pub mod RowLemmas
 pub mod PlaneLemmas
 pub mod PictureLemmas
-pub mod MovedLemmas

@@ -1,9 +1,7 @@
 -- Where the code keeps samples, and what it lends to be written.
 use Rattle.std.specs.Prelude.{ℕ, ◌+◌, ◌-◌, ◌*◌, List, ◌++◌, take, drop, length, map}
 use Rattle.std.specs.Borrow.{Array, Lends, MutBor, Fml, RattleType}
-use Rattle.vp9_types.specs.declared.shape.Plane.{Plane}
 use Rattle.vp9_types.specs.declared.sample.Sample.{Ghosts}
-use Rattle.vp9_types.specs.declared.shape.Plane.TheVariants.{Y, U, V}
 use Rattle.planes.specs.declared.area.Area.{Area}
 use Rattle.planes.specs.declared.frame_planes.FramePlanes.{FramePlanes}
 use Rattle.planes.specs.declared.picture.Picture.{Picture}
@@ -29,17 +27,8 @@ with_row p row column w =
 abbrev pub LendsRow : (R : RattleType) (g : Ghosts R.Denot) → MutBor PlaneSamples → ℕ → ℕ → MutBor (List R.Denot) → Fml
 LendsRow R g s row column r = Lends (sample_plane.the_row R g) (Array R 0) s r (λ w. with_row s.now row column (map g.value w))
 
--- one plane replaced
-abbrev pub with_plane_of : {X : Type 0} → FramePlanes X → Plane → PlaneSamples → FramePlanes X
-with_plane_of f Y p = record f { y = p }
-with_plane_of f U p = record f { u = p }
-with_plane_of f V p = record f { v = p }
-
 abbrev pub with_planes : {X : Type 0} → Picture X → FramePlanes X → Picture X
 with_planes p f = record p { planes = f }
-
-abbrev pub LendsPlane : (R : RattleType) → Ghosts R.Denot → MutBor (FramePlanes R.Denot) → Plane → MutBor PlaneSamples → Fml
-LendsPlane R g s plane r = Lends (frame_planes.the_row R g) (sample_plane.the_row R g) s r (with_plane_of s.now plane)
 
 abbrev pub LendsPlanes : (R : RattleType) → Ghosts R.Denot → MutBor (Picture R.Denot) → MutBor (FramePlanes R.Denot) → Fml
 LendsPlanes R g s r = Lends (picture.the_row R g) (frame_planes.the_row R g) s r (with_planes s.now)

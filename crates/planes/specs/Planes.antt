@@ -19,10 +19,6 @@ lower_end a = a.first_row + a.rows
 abbrev pub right_end : Area → ℕ
 right_end a = a.first_column + a.columns
 
--- the same number of rows and columns, from another row on
-abbrev pub from_row : Area → ℕ → Area
-from_row a row = record a { first_row = row }
-
 -- a map whose first row and column are these: above and left of it all is 0
 unfoldable pub moved_to : ℕ → ℕ → Map → Map
 moved_to row column m = λ y x. if nat_le row y && nat_le column x then m (y - row) (x - column) else 0

@@ -1,5 +1,4 @@
 ghost use Rattle.std.specs.Prelude.{◌≡◌, ◌≤◌, ℕ, IfOk, OnOk, OnErr, IsOk, MatchBool};
-ghost use Rattle.std.specs.Borrow.{sem};
 ghost use Rattle.planes.specs.Planes.{IsArea};
 ghost use Rattle.planes.specs.Pictures.{FitsPlanes, coded_area};
 
@@ -18,7 +17,6 @@ pub struct FramePlanes<P: Sample> {
 
 impl<P: Sample> FramePlanes<P> {
     ghost use Rattle.planes.specs.Pictures.{HasSizes, plane_of, samples_of, blank};
-    ghost use Rattle.planes.specs.Code.{LendsPlane};
 
     /// Zeros, with all places of 8x8 luma samples of a frame.
     pub fn new(alloc: Global, shape: &Shape) -> Result<FramePlanes<P>, AllocError>
@@ -40,18 +38,6 @@ impl<P: Sample> FramePlanes<P> {
             Plane::Y => &self.y,
             Plane::U => &self.u,
             Plane::V => &self.v,
-        }
-    }
-
-    /// A plane for writing.
-    pub fn plane_mut(&mut self, plane: Plane) -> &mut SamplePlane<P>
-        ensures* writes_back { sem 𝓛 (LendsPlane P.row P.Sample self.entry plane result) }
-        ensures value { result.now ≡ plane_of self.old plane }
-    {
-        match plane {
-            Plane::Y => &mut self.y,
-            Plane::U => &mut self.u,
-            Plane::V => &mut self.v,
         }
     }
 

@@ -1,7 +1,7 @@
 ghost use Rattle.std.specs.Prelude.{◌≡◌, ◌≤◌, ◌<◌, ◌+◌, ◌-◌, ◌*◌, ℕ, List, IfOk, length, map, slice_index};
 ghost use Rattle.std.specs.Borrow.{sem};
 ghost use Rattle.vp9_types.specs.Maps.{IsAtMost, IsPiece, rows_of, row_of, with_block};
-ghost use Rattle.planes.specs.Planes.{PlaneSamples, IsArea, StartsIn, HasRow, HasColumn, lower_end, right_end, from_row, plane_map, with_part};
+ghost use Rattle.planes.specs.Planes.{PlaneSamples, IsArea, StartsIn, HasRow, HasColumn, lower_end, right_end, plane_map, with_part};
 
 use crate::area::Area;
 use crate::copies::{copy_columns, copy_rows, read_apart};
@@ -254,21 +254,6 @@ impl<P: Sample> SamplePlane<P> {
     {
         let at = self.area.place_of(row, column);
         self.samples.slice_mut(at..at + count)
-    }
-
-    /// Moves its area down, to begin at another row, with as many rows and columns as before. The rows that it had there
-    /// already keep their samples; what the others hold isn't said, but for its range.
-    pub fn move_down(&mut self, first_row: usize)
-        requires down { self.old.area.first_row ≤ first_row }
-        requires end { first_row + self.old.area.rows ≤ 65536 }
-        ensures area { self.new.area ≡ from_row self.old.area first_row }
-        ensures kept { (row column : ℕ) → first_row ≤ row → row < lower_end self.old.area → plane_map self.new row column ≡ plane_map self.old row column }
-        ensures range { (most : ℕ) → IsAtMost most (plane_map self.old) → IsAtMost most (plane_map self.new) }
-    {
-        let area = self.area;
-        let left_out = ((first_row - area.first_row) * area.columns).min(self.samples.len());
-        self.samples.copy_within(left_out.., 0);
-        self.area = Area { first_row, ..area };
     }
 
     /// All zeros.

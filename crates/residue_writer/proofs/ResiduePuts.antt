@@ -13,7 +13,7 @@ use Rattle.coef_tokens.specs.Code.{HoldsLevels}
 use Rattle.counting_reader.specs.Counting.{settle, lifted, in_order}
 use Rattle.bool_encoder.specs.CountedBools.{PutsTo}
 use Rattle.bool_encoder.proofs.CountedPuts.{puts_value, value_by_counting, puts_on, puts_broken, puts_lifted, puts_settle}
-use Rattle.token_writer.specs.TokenFits.{PutsLevels}
+use Rattle.token_writer.specs.Code.{PutsLevels}
 use Rattle.residue_transforms.specs.Residue.{residue}
 use Rattle.block_plan.specs.Planned.{Residue}
 use Rattle.residue_syntax.specs.BlocksInPlanes.{type_at, token_kind}

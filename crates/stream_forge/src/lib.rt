@@ -1,4 +1,4 @@
-//! Generated streams of VP9: a whole IVF file, drawn from a number by a rule that is written down, so that others can make the
+//! Made streams of VP9: a whole IVF file, drawn from a number by a rule that is written down, so that others can make the
 //! same.
 #![tactic(auto)]
 

@@ -22,8 +22,8 @@ use Rattle.coef_tokens.specs.declared.step.Step.TheVariants.{End, Zero, Level}
 use Rattle.coef_tokens.specs.Places.{Tables, Tokens, Read, no_tokens, block_tokens, tokens_from, step_by, row_at, with_zero, with_level, goes_on, level_at}
 use Rattle.coef_tokens.specs.Code.{HoldsClasses, HoldsLevels, StandsAt}
 use Rattle.bool_encoder.specs.CountedBools.{valued, PutsValue}
-use Rattle.token_writer.specs.TokenFits.{CanPut, IsCoded, PutsLevels, level_in}
-use Rattle.token_writer.specs.Code.{PutsStep, AreThree}
+use Rattle.token_writer.specs.TokenFits.{CanPut, IsCoded, level_in}
+use Rattle.token_writer.specs.Code.{PutsLevels, PutsStep, AreThree}
 use Rattle.bool_encoder.proofs.CountedPuts.{valued_in_order, valued_settle, value_counts}
 
 coded_small : (depth : Depth) (m : ℕ) → IsCoded depth m → m < 2 ^ 19

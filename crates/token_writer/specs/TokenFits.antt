@@ -3,10 +3,7 @@ use Rattle.std.specs.Prelude.{◌≡◌, ◌≢◌, ℕ, ◌<◌, ◌≤◌, ◌
 use Rattle.std.specs.List.{All}
 use Rattle.vp9_types.specs.declared.shape.Depth.{Depth}
 use Rattle.vp9_tables.specs.Coefficients.{category_of}
-use Rattle.bool_encoder.specs.Part.{NumberPart}
-use Rattle.coef_tokens.specs.Places.{Tables, Tokens, block_tokens}
-use Rattle.coef_tokens.specs.Code.{HoldsLevels}
-use Rattle.bool_encoder.specs.CountedBools.{PutsCounting}
+use Rattle.coef_tokens.specs.Places.{Tables}
 
 -- what the last category can say: it begins at 67, and has 14, 16 or 18 bits, by the depth
 abbrev pub IsCoded : Depth → ℕ → Type 0
@@ -23,8 +20,3 @@ pub record CanPut (t : Tables) (levels : List ℤ) (count : ℕ) : Type 0 where
   pub coded : All (λ level. IsCoded t.depth (unsigned_abs level)) levels
   pub others : (position : ℕ) → ((k : ℕ) → k < count → slice_index t.scan k ≢ position) → level_in levels position ≡ pos 0
   pub last : 0 < count → count < length t.scan → level_in levels (slice_index t.scan (count - 1)) ≢ pos 0
-
--- bools that lead the tokens of a block to these levels were put, of which so many places are coded
-abbrev pub PutsLevels : Tables → ℕ → NumberPart → List ℤ → ℕ → NumberPart → Type 0
-PutsLevels t first old levels count new =
-    (p : Tokens) × PutsCounting (block_tokens t first) old p new × (p.count ≡ count) × HoldsLevels levels p.reads

@@ -3,8 +3,8 @@
 ghost use Rattle.std.specs.Prelude.{◌≡◌, ◌+◌, ◌≤◌, ◌<◌, IfOk, length, slice_index};
 ghost use Rattle.vp9_tables.specs.Scans.{area};
 ghost use Rattle.coef_tokens.specs.Code.{tables_of};
-ghost use Rattle.token_writer.specs.TokenFits.{CanPut, PutsLevels};
-ghost use Rattle.token_writer.specs.Code.{AreThree};
+ghost use Rattle.token_writer.specs.TokenFits.{CanPut};
+ghost use Rattle.token_writer.specs.Code.{AreThree, PutsLevels};
 
 use crate::step::{put_end, put_some, put_zero};
 use bool_encoder::BoolEncoder;

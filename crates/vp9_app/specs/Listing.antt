@@ -20,12 +20,13 @@ abbrev pub persist_behind : Persist → FrameHead → Persist
 persist_behind persist (Coded header compressed) = next_persist header persist
 persist_behind persist (ShowExisting slot) = persist
 
-abbrev pub listed : ℕ → ℕ → Persist → Result FrameHead Rule → Result (Added Persist ℕ) Rule
-listed number bytes persist (Ok head) = Ok (record { state = persist_behind persist head; adds = head_line number bytes head })
-listed number bytes persist (Err rule) = Err rule
+-- the line that a frame adds, and what persists behind it, unless its header breaks a rule
+abbrev pub added_line : ℕ → ℕ → Persist → Result FrameHead Rule → Result (Added Persist ℕ) Rule
+added_line number bytes persist (Ok head) = Ok (record { state = persist_behind persist head; adds = head_line number bytes head })
+added_line number bytes persist (Err rule) = Err rule
 
 unfoldable pub list_step : ℕ → Persist → List ℕ → Result (Added Persist ℕ) Rule
-list_step number persist frame = listed number (length frame) persist (head_of persist frame)
+list_step number persist frame = added_line number (length frame) persist (head_of persist frame)
 
 -- a frame adds its line
 abbrev pub lining : Walk Persist ℕ Rule

@@ -12,9 +12,10 @@ kind_name Key = codes "key"
 kind_name IntraOnly = codes "intra"
 kind_name (Inter fields) = codes "inter"
 
-abbrev pub bit_of : Bool → ℕ
-bit_of true = 1
-bit_of false = 0
+-- a flag as a digit
+abbrev pub flag_digit : Bool → ℕ
+flag_digit true = 1
+flag_digit false = 0
 
 -- as `frame 0: key 352x288`
 unfoldable pub size_text : ℕ → Header → List ℕ
@@ -35,7 +36,7 @@ line_feed = 10 ∷ []
 -- as ` ss 11 show 1 refresh ff`
 unfoldable pub use_text : Header → List ℕ
 use_text header =
-    codes " ss " ++ decimal (bit_of header.color.ss_x) ++ decimal (bit_of header.color.ss_y) ++ codes " show " ++ decimal (bit_of header.show_frame)
+    codes " ss " ++ decimal (flag_digit header.color.ss_x) ++ decimal (flag_digit header.color.ss_y) ++ codes " show " ++ decimal (flag_digit header.show_frame)
     ++ codes " refresh " ++ two_hex header.refresh
 
 -- as ` q 32 level 7 tiles 2x1`

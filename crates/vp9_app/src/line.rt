@@ -1,6 +1,6 @@
 ghost use Rattle.std.specs.Prelude.{◌≡◌, ◌++◌, OnOk, string_bytes};
 ghost use Rattle.frame_headers.specs.Tiles.{AreFewTiles};
-ghost use Rattle.vp9_app.specs.ListingLines.{kind_name, bit_of, size_text, depth_text, use_text, params_text, bytes_text, coded_line, shown_line};
+ghost use Rattle.vp9_app.specs.ListingLines.{kind_name, flag_digit, size_text, depth_text, use_text, params_text, bytes_text, coded_line, shown_line};
 
 use frame_headers::{FrameKind, FrameParams, Header};
 use std::alloc::AllocError;
@@ -16,7 +16,7 @@ fn name_of(kind: &FrameKind) -> &'static str
 }
 
 fn bit(flag: bool) -> u8
-    ensures { result ≡ bit_of flag }
+    ensures { result ≡ flag_digit flag }
 {
     if flag { 1 } else { 0 }
 }
