@@ -176,7 +176,8 @@ fn filtered_far_rows<F: FarFilter>(above: &Rows, below: &Rows, l: Limits) -> (Ro
 }
 
 /// Eight columns filtered by the filters of all widths, each as its line alone: eight rows above the edge, and eight
-/// below it; by the widest filter alone, unless another one changes any of them. Each caller has a `SITE` of its own.
+/// below it; by the widest filter alone, unless another one changes any of them. For each `P` and `SITE` there is one caller, of
+/// which it becomes a part.
 #[inline(always)]
 pub fn filtered_far_lanes<P: Sample, const SITE: usize>(
     above: &Lanes,

@@ -169,8 +169,9 @@ fn filtered_rows<F: LineFilter>(x: &Rows, l: Limits) -> Rows
     }
 }
 
-/// Eight columns filtered by the filters of width 4, or of width 8: by those alone that change any of them. Each caller has a `SITE` of its own, and so a copy that
-/// becomes a part of it: lanes stay in registers.
+/// Eight columns filtered by the filters of width 4, or of width 8: by those alone that change any of them. For each `P` and
+/// `SITE` there is one caller: a function that is called at one place alone is made a part of it however large it is, and lanes
+/// stay in registers.
 #[inline(always)]
 pub fn filtered_by<P: Sample, const SITE: usize>(x: &Lanes, l: Limits, wide: bool) -> Lanes
     requires small { (j : ℕ) → j < 8 → IsNear (near_at x.now j) }
