@@ -89,3 +89,11 @@ pub smoothed_is : (l : Limits) (x : Near) (y : Far) (t : Bool) (s r : Wide) → 
     → r ≡ (if t then s else record { near = x; far = y }) → wide_line_of r.near r.far ≡ smoothed_far l (wide_line_of x y)
 smoothed_is l x y t s r is smooth at =
     smooth_or_same x y t s r (wide_filter 7 (wide_line_of x y)) smooth at ∙ ap (λ b. cond b (wide_filter 7 (wide_line_of x y)) (wide_line_of x y)) (is ∙ sym (calm_same l x y))
+
+near_or_same : (x : Near) (t : Bool) (s r : Near) (w : Line) → line_of s ≡ w → r ≡ (if t then s else x) → line_of r ≡ cond t w (line_of x)
+near_or_same x true s r w made at = rw at made
+near_or_same x false s r w made at = rw at refl
+
+-- a line that becomes w where t holds
+pub near_is : (x : Near) (t u : Bool) (s r : Near) (w : Line) → t ≡ u → line_of s ≡ w → r ≡ (if t then s else x) → line_of r ≡ (if u then w else line_of x)
+near_is x t u s r w is made at = near_or_same x t s r w made at ∙ ap (λ b. cond b w (line_of x)) is

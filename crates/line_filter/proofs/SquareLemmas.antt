@@ -1,5 +1,5 @@
 -- Squares of eight rows of eight samples, loaded and stored.
-use Rattle.std.proofs.Common.{◌≡◌, ◌<◌, ◌≤◌, ◌+◌, ◌*◌, ◌-◌, ℕ, inl, inr, sym, ◌∙◌, arith, ap, List, length, get_or, take, drop, ◌++◌, replicate, slice_index, map}
+use Rattle.std.proofs.Common.{◌≡◌, ◌<◌, ◌≤◌, ◌+◌, ◌*◌, ◌-◌, ℕ, zero, suc, inl, inr, sym, ◌∙◌, arith, ap, List, length, get_or, take, drop, ◌++◌, replicate, slice_index, map}
 use Rattle.std.proofs.lemmas.Bool.{cases_lt}
 use Rattle.std.proofs.lemmas.Bool.Decides.{nat_tests}
 use Rattle.std.proofs.lemmas.List.{get_or_append_left, get_or-append_right, get_or-drop, get_or-replicate, get_or_past, get_or-map, length-map, length-take, length-drop}
@@ -12,6 +12,8 @@ use borrow.Rule.Slice.PartMut.{put_mid}
 use Rattle.vp9_types.specs.Maps.{Map, rows_of, with_block}
 use Rattle.planes.specs.declared.area.Area.{Area}
 use Rattle.planes.specs.Planes.{PlaneSamples, plane_map, moved_to, right_end, with_part}
+use Rattle.line_filter.specs.declared.lanes.Lanes.{Lanes}
+use Rattle.line_filter.specs.Code.{AreLanes, AreLanesAtMost, IsRowAtMost, lane_at}
 use Rattle.planes.proofs.RowLemmas.{with_block_same, one_row_more, add-sub_left, row_put}
 use Rattle.planes.proofs.PlaneLemmas.{area_map}
 
@@ -82,3 +84,36 @@ all_stored new m f is i j low narrow = ap (λ (g : Map). g i j) is ∙ inside m 
 pub part_same : (a : Area) (m : Map) (row column : ℕ) (b f : Map) → ((i j : ℕ) → i < 8 → j < 8 → b i j ≡ f i j)
     → with_part a m row column 8 8 b ≡ with_part a m row column 8 8 f
 part_same a m row column b f same = with_block_same m row column _ _ b f (λ i j low narrow. same i j (omega arith) (omega arith))
+
+-- lanes row by row
+pub lane_is : (x : Lanes) (f : Map) → AreLanes x f → (i j : ℕ) → i < 8 → j < 8 → slice_index (lane_at x i) j ≡ f i j
+unfolding lane_at
+lane_is x f so zero j low narrow = so.r0 j narrow
+lane_is x f so (suc zero) j low narrow = so.r1 j narrow
+lane_is x f so (suc (suc zero)) j low narrow = so.r2 j narrow
+lane_is x f so (suc (suc (suc zero))) j low narrow = so.r3 j narrow
+lane_is x f so (suc (suc (suc (suc zero)))) j low narrow = so.r4 j narrow
+lane_is x f so (suc (suc (suc (suc (suc zero))))) j low narrow = so.r5 j narrow
+lane_is x f so (suc (suc (suc (suc (suc (suc zero)))))) j low narrow = so.r6 j narrow
+lane_is x f so (suc (suc (suc (suc (suc (suc (suc zero))))))) j low narrow = so.r7 j narrow
+lane_is x f so (suc (suc (suc (suc (suc (suc (suc (suc i)))))))) j low narrow = absurd (omega arith)
+
+pub lane_small : (most : ℕ) (x : Lanes) → AreLanesAtMost most x → (i : ℕ) → i < 8 → IsRowAtMost most (lane_at x i)
+unfolding lane_at
+lane_small most x so zero low = so.r0
+lane_small most x so (suc zero) low = so.r1
+lane_small most x so (suc (suc zero)) low = so.r2
+lane_small most x so (suc (suc (suc zero))) low = so.r3
+lane_small most x so (suc (suc (suc (suc zero)))) low = so.r4
+lane_small most x so (suc (suc (suc (suc (suc zero))))) low = so.r5
+lane_small most x so (suc (suc (suc (suc (suc (suc zero)))))) low = so.r6
+lane_small most x so (suc (suc (suc (suc (suc (suc (suc zero))))))) low = so.r7
+lane_small most x so (suc (suc (suc (suc (suc (suc (suc (suc i)))))))) low = absurd (omega arith)
+
+-- eight samples are written as bytes
+pub bytes_written : (to row : List ℕ) → length to ≡ 8 → length row ≡ 8 → IsRowAtMost 255 row → (j : ℕ) → j < 8 → slice_index (put_chunk 0 to (map byte_of row)) j ≡ slice_index row j
+bytes_written to row long eight small j low =
+    let bytes : List ℕ = map byte_of row in
+    let same : length to ≡ length bytes = long ∙ sym (length-map row byte_of ∙ eight) in
+    ap (λ (w : List ℕ). slice_index w j) (put_chunk_whole to bytes same)
+    ∙ (get_or-map byte_of row j 0 0 (omega (arith, low, eight)) ∙ byte_same (slice_index row j) (small j low))

@@ -1,5 +1,5 @@
 -- What the code keeps of lines: eight of them at a time, as lanes.
-use Rattle.std.specs.Prelude.{ℕ, ◌+◌, ◌-◌, ◌*◌, ◌<◌, ◌≤◌, ◌≡◌, Bool, false, not, ◌&&◌, if◌then◌else◌, List, [], ◌∷◌, min, slice_index}
+use Rattle.std.specs.Prelude.{ℕ, ◌+◌, ◌-◌, ◌*◌, ◌<◌, ◌≤◌, ◌≡◌, Bool, false, not, ◌&&◌, if◌then◌else◌, List, [], ◌∷◌, min, nat_eq, slice_index}
 use Rattle.vp9_types.specs.Maps.{Map}
 use Rattle.planes.specs.declared.area.Area.{Area}
 use Rattle.planes.specs.Planes.{lower_end, right_end, with_part}
@@ -144,6 +144,15 @@ pub record AreLanes (x : Lanes) (f : ℕ → ℕ → ℕ) : Type 0 where
   pub r5 : (j : ℕ) → j < 8 → slice_index x.r5 j ≡ f 5 j
   pub r6 : (j : ℕ) → j < 8 → slice_index x.r6 j ≡ f 6 j
   pub r7 : (j : ℕ) → j < 8 → slice_index x.r7 j ≡ f 7 j
+
+-- the i-th of eight rows
+unfoldable pub lane_at : Lanes → ℕ → List ℕ
+lane_at x i =
+    if nat_eq i 0 then x.r0 else (if nat_eq i 1 then x.r1 else (if nat_eq i 2 then x.r2 else (if nat_eq i 3 then x.r3
+    else (if nat_eq i 4 then x.r4 else (if nat_eq i 5 then x.r5 else (if nat_eq i 6 then x.r6 else x.r7))))))
+
+abbrev pub IsRowAtMost : ℕ → List ℕ → Type 0
+IsRowAtMost most row = (j : ℕ) → j < 8 → slice_index row j ≤ most
 
 -- none of them is greater
 pub record AreLanesAtMost (most : ℕ) (x : Lanes) : Type 0 where

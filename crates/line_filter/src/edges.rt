@@ -35,7 +35,7 @@ fn filter_loaded_down<P: EdgeSample, const SITE: usize>(
     ensures area { plane.new.area ≡ plane.old.area }
     ensures map { plane_map plane.new ≡ down_filtered 4 (filtered_near l wide) plane.old.area (plane_map plane.old) row column }
 {
-    let lanes = filtered_by::<SITE>(x, l, wide);
+    let lanes = filtered_by::<P, SITE>(x, l, wide);
     P::put_lanes(plane, row - 4, column, &lanes);
 }
 
@@ -57,7 +57,7 @@ fn filter_loaded_along<P: EdgeSample, const SITE: usize>(
     ensures area { plane.new.area ≡ plane.old.area }
     ensures map { plane_map plane.new ≡ along_filtered 4 (filtered_near l wide) plane.old.area (plane_map plane.old) row column }
 {
-    let lanes = filtered_by::<SITE>(x, l, wide);
+    let lanes = filtered_by::<P, SITE>(x, l, wide);
     P::put_lanes(plane, row, column - 4, &turned(&lanes));
 }
 
@@ -122,7 +122,7 @@ fn filter_far_down<P: EdgeSample>(plane: &mut SamplePlane<P>, row: usize, column
         filter_loaded_down::<P, 4>(plane, &between(&above, &below), row, column, l, true);
         return;
     }
-    let (above, below) = filtered_far_lanes::<0>(&above, &below, l, masks.near);
+    let (above, below) = filtered_far_lanes::<P, 0>(&above, &below, l, masks.near);
     P::put_lanes(plane, row - 8, column, &above);
     P::put_lanes(plane, row, column, &below);
 }
@@ -147,7 +147,7 @@ fn filter_far_along<P: EdgeSample>(plane: &mut SamplePlane<P>, row: usize, colum
         filter_loaded_along::<P, 5>(plane, &between(&left, &right), row, column, l, true);
         return;
     }
-    let (left, right) = filtered_far_lanes::<1>(&left, &right, l, masks.near);
+    let (left, right) = filtered_far_lanes::<P, 1>(&left, &right, l, masks.near);
     P::put_lanes(plane, row, column - 8, &turned(&left));
     P::put_lanes(plane, row, column, &turned(&right));
 }

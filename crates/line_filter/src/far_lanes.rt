@@ -10,6 +10,7 @@ use crate::far::{Far, flat_mask2};
 use crate::filters::{FarFilter, Mixed, Smooth};
 use crate::lanes::{Lanes, Rows, lanes_of, rows_of};
 use crate::near::{Near, filter_mask, flat_mask};
+use vp9_types::Sample;
 
 #[inline(always)]
 #[tactic(auto, unfolding(crate::specs::Code::near_between))]
@@ -175,9 +176,10 @@ fn filtered_far_rows<F: FarFilter>(above: &Rows, below: &Rows, l: Limits) -> (Ro
 }
 
 /// Eight columns filtered by the filters of all widths, each as its line alone: eight rows above the edge, and eight
-/// below it; by the widest filter alone, unless another one changes any of them. Each caller has a `SITE` of its own.
+/// below it; by the widest filter alone, unless another one changes any of them. For each `P` and `SITE` there is one caller, of
+/// which it becomes a part.
 #[inline(always)]
-pub fn filtered_far_lanes<const SITE: usize>(
+pub fn filtered_far_lanes<P: Sample, const SITE: usize>(
     above: &Lanes,
     below: &Lanes,
     l: Limits,

@@ -3,10 +3,10 @@
 ghost use Rattle.std.specs.Prelude.{◌≡◌, ℕ, ◌<◌, ◌≤◌, slice_index, length};
 ghost use Rattle.vp9_types.specs.Maps.{rows_of, with_block};
 ghost use Rattle.planes.specs.Planes.{StartsIn, plane_map, with_part};
-ghost use Rattle.line_filter.specs.Code.{AreLanes, AreLanesAtMost};
+ghost use Rattle.line_filter.specs.Code.{AreLanes, AreLanesAtMost, lane_at};
 
 use crate::lanes::{Lanes, Row, stored};
-use planes::SamplePlane;
+use planes::{RowMaker, SamplePlane};
 use std::simd::prelude::*;
 use vp9_types::Sample;
 
@@ -23,15 +23,131 @@ pub trait EdgeSample: Sample {
 impl EdgeSample for u8 {
     #[inline(always)]
     fn put_lanes(plane: &mut SamplePlane<u8>, row: usize, column: usize, x: &Lanes) {
-        plane.put_square::<8>(row, column, &flat_bytes(x));
+        let lanes = *x;
+        let area = plane.area();
+        if 8 <= area.lower_end() - row && 8 <= area.right_end() - column {
+            plane.put_made::<8, ByteRows>(row, column, 8, &ByteRows { lanes });
+        } else {
+            put_bytes_at_end(plane, row, column, &lanes);
+        }
     }
 }
 
 impl EdgeSample for u16 {
     #[inline(always)]
     fn put_lanes(plane: &mut SamplePlane<u16>, row: usize, column: usize, x: &Lanes) {
-        plane.put_square::<8>(row, column, &flat(x));
+        let lanes = *x;
+        let area = plane.area();
+        if 8 <= area.lower_end() - row && 8 <= area.right_end() - column {
+            plane.put_made::<8, WordRows>(row, column, 8, &WordRows { lanes });
+        } else {
+            put_words_at_end(plane, row, column, &lanes);
+        }
     }
+}
+
+/// Rows that are put into a plane as bytes.
+#[derive(Drop)]
+struct ByteRows {
+    lanes: Lanes,
+}
+
+/// Rows that are put into a plane as they are.
+#[derive(Drop)]
+struct WordRows {
+    lanes: Lanes,
+}
+
+impl RowMaker<u8, 8> for ByteRows {
+    ghost use Rattle.std.specs.Prelude.{ℕ, slice_index};
+    ghost use Rattle.line_filter.specs.Code.{IsRowAtMost, lane_at};
+
+    ghost makes = { λ m i. IsRowAtMost 255 (lane_at m.lanes i) };
+
+    ghost made = { λ m i j. slice_index (lane_at m.lanes i) j };
+
+    #[inline(always)]
+    fn make(&self, i: usize, row: &mut [u8]) {
+        let lane = lane_at(&self.lanes, i);
+        write_bytes(row, lane);
+    }
+}
+
+impl RowMaker<u16, 8> for WordRows {
+    ghost use Rattle.std.specs.Prelude.{ℕ, slice_index};
+    ghost use Rattle.line_filter.specs.Code.{IsRowAtMost, lane_at};
+
+    ghost makes = { λ m i. IsRowAtMost 65535 (lane_at m.lanes i) };
+
+    ghost made = { λ m i j. slice_index (lane_at m.lanes i) j };
+
+    #[inline(always)]
+    fn make(&self, i: usize, row: &mut [u16]) {
+        let lane = stored(lane_at(&self.lanes, i));
+        row.copy_from_slice(&lane);
+    }
+}
+
+/// The i-th of eight rows.
+#[inline(always)]
+#[tactic(auto, unfolding(crate::specs::Code::lane_at))]
+fn lane_at(x: &Lanes, i: usize) -> u16x8
+    ensures { result ≡ lane_at x.now i }
+{
+    if i == 0 {
+        return x.r0;
+    }
+    if i == 1 {
+        return x.r1;
+    }
+    if i == 2 {
+        return x.r2;
+    }
+    if i == 3 {
+        return x.r3;
+    }
+    if i == 4 {
+        return x.r4;
+    }
+    if i == 5 {
+        return x.r5;
+    }
+    if i == 6 {
+        return x.r6;
+    }
+    x.r7
+}
+
+/// Writes eight samples as bytes.
+#[inline(always)]
+fn write_bytes(to: &mut [u8], row: u16x8)
+    requires long { length to.old ≡ 8 }
+    requires small { (j : ℕ) → j < 8 → slice_index row j ≤ 255 }
+    ensures { (j : ℕ) → j < 8 → slice_index to.new j ≡ slice_index row j }
+{
+    let bytes: u8x8 = row.cast();
+    bytes.copy_to_slice(to);
+}
+
+/// Puts rows where some of them end, or lie, outside of the plane.
+#[inline(never)]
+fn put_bytes_at_end(plane: &mut SamplePlane<u8>, row: usize, column: usize, x: &Lanes)
+    requires inside { StartsIn plane.old.area row column }
+    requires fits { AreLanesAtMost 255 x.now }
+    ensures area { plane.new.area ≡ plane.old.area }
+    ensures map { (f : ℕ → ℕ → ℕ) → AreLanes x.now f → plane_map plane.new ≡ with_part plane.old.area (plane_map plane.old) row column 8 8 f }
+{
+    plane.put_square::<8>(row, column, &flat_bytes(x));
+}
+
+/// The same as they are.
+#[inline(never)]
+fn put_words_at_end(plane: &mut SamplePlane<u16>, row: usize, column: usize, x: &Lanes)
+    requires inside { StartsIn plane.old.area row column }
+    ensures area { plane.new.area ≡ plane.old.area }
+    ensures map { (f : ℕ → ℕ → ℕ) → AreLanes x.now f → plane_map plane.new ≡ with_part plane.old.area (plane_map plane.old) row column 8 8 f }
+{
+    plane.put_square::<8>(row, column, &flat(x));
 }
 
 /// Writes a row of a square of eight rows.

@@ -8,6 +8,7 @@ use crate::edge::Limits;
 use crate::filters::{LineFilter, Mixed, Narrow, Smooth};
 use crate::near::{Near, filter_mask, flat_mask};
 use std::simd::prelude::*;
+use vp9_types::Sample;
 
 /// Eight samples of a row.
 pub type Row = [u16; 8];
@@ -168,10 +169,11 @@ fn filtered_rows<F: LineFilter>(x: &Rows, l: Limits) -> Rows
     }
 }
 
-/// Eight columns filtered by the filters of width 4, or of width 8: by those alone that change any of them. Each caller has a `SITE` of its own, and so a copy that
-/// becomes a part of it: lanes stay in registers.
+/// Eight columns filtered by the filters of width 4, or of width 8: by those alone that change any of them. For each `P` and
+/// `SITE` there is one caller: a function that is called at one place alone is made a part of it however large it is, and lanes
+/// stay in registers.
 #[inline(always)]
-pub fn filtered_by<const SITE: usize>(x: &Lanes, l: Limits, wide: bool) -> Lanes
+pub fn filtered_by<P: Sample, const SITE: usize>(x: &Lanes, l: Limits, wide: bool) -> Lanes
     requires small { (j : ℕ) → j < 8 → IsNear (near_at x.now j) }
     requires half { l.half ≤ 2048 }
     ensures { (j : ℕ) → j < 8 → line_of (near_at result j) ≡ filtered_near l wide (line_of (near_at x.now j)) }

@@ -225,7 +225,7 @@ pub fn narrowed(x: Near, l: Limits) -> Near
 {
     let calm = filter_mask(x, l);
     let narrow = narrow(x, l);
-    if calm { narrow } else { x }
+    where_calm(calm, narrow, x)
 }
 
 /// The line filtered, where it is flat if it changes.
@@ -236,7 +236,14 @@ pub fn smoothed(x: Near, l: Limits) -> Near
 {
     let calm = filter_mask(x, l);
     let smooth = smooth(x);
-    if calm { smooth } else { x }
+    where_calm(calm, smooth, x)
+}
+
+#[inline(always)]
+pub fn where_calm(calm: bool, filtered: Near, x: Near) -> Near
+    ensures { result ≡ (if calm then filtered else x) }
+{
+    if calm { filtered } else { x }
 }
 
 #[inline(always)]

@@ -1,0 +1,5 @@
+use Rattle.line_filter.proofs.NearMasks.{near_is}
+use Rattle.line_filter.proofs.near.smoothed.Goals as goal
+
+pub returns : goal.returns
+returns c = near_is c.args.x c.filter_mask-calm.result _ c.smooth-smooth.result _ _ c.filter_mask-calm.ensures c.smooth-smooth.ensures c.where_calm.ensures
