@@ -75,6 +75,10 @@ abbrev pub EndsIn : {X : Type 0} → WorldState X → Ending X → Type 0
 EndsIn w (Whole f x) = HasResult w.finished (End f) x
 EndsIn w (Refused f x) = HasResult w.finished (Write f) x
 
+-- and so it is with as many frames at once as the run may have.
+abbrev pub HasHappened : {X : Type 0} → Rules X → JobName → X → Type 0
+HasHappened {X} m job x = (window : ℕ) × IsLogged m window job x
+
 -- Events that were allowed one after another lead to a world in which the run has ended so.
 abbrev pub HasEvents : {X : Type 0} → Rules X → ℕ → Ending X → Type 0
 HasEvents {X} m window ending = (w : WorldState X) × IsReached m window w × EndsIn w ending

@@ -1,5 +1,6 @@
 ghost use Rattle.std.specs.Prelude.{◌≡◌, ℕ, ◌+◌, ◌*◌, ◌<◌, length, slice_get, Option, Some, IfOk, IfSome, IsSome};
 ghost use Rattle.job_order.specs.Sound.{frame_of};
+ghost use Rattle.job_crew.specs.Events.{HasHappened};
 ghost use Rattle.job_crew.specs.Code.{HasHeadCell, HasRowCell};
 
 use crate::finished::Finished;
@@ -127,7 +128,8 @@ impl<X: Drop, M: Meaning<X>> ColumnCells<X, M> {
 
 /// Sets the result of a job in its cell, if it has one.
 pub(crate) fn set<X: Drop, M: Meaning<X>>(cell: Option<&Cell<X, M>>, job: JobName, value: X)
-    requires { M.truth.right job value }
+    requires right { M.truth.right job value }
+    requires event { HasHappened M.rules job value }
 {
     if let Some(cell) = cell {
         let _ = cell.try_set(Finished::new(job, value));
@@ -139,7 +141,8 @@ pub(crate) fn get<'c, X: Drop, M: Meaning<X>>(
     cell: Option<&'c Cell<X, M>>,
     job: JobName,
 ) -> Option<&'c X>
-    ensures { IfSome result (λ x. M.truth.right job x.now) }
+    ensures right { IfSome result (λ x. M.truth.right job x.now) }
+    ensures event { IfSome result (λ x. HasHappened M.rules job x.now) }
 {
     cell?.get()?.of(job)
 }

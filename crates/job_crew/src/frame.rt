@@ -2,6 +2,7 @@ ghost use Rattle.std.specs.Prelude.{◌≡◌, ℕ, ◌+◌, ◌*◌, ◌<◌, �
 ghost use Rattle.std.specs.Option.{option_map};
 ghost use Rattle.std.specs.Arc.{arc_value};
 ghost use Rattle.job_order.specs.Sound.{frame_of};
+ghost use Rattle.job_crew.specs.Events.{HasHappened};
 ghost use Rattle.job_crew.specs.Code.{is_named, mapped, kept, numbered, HasHeadCell, HasRowCell, HasLastingCell};
 
 use crate::cells::{Cell, FrameCells, HeadCells, frame_of, get};
@@ -164,7 +165,8 @@ impl<X: Drop, M: Meaning<X>> Frame<X, M> {
 
     /// The result of such a job, where it is finished.
     pub(crate) fn find(&self, job: JobName) -> Option<&X>
-        ensures { IfSome result (λ x. M.truth.right job x.now) }
+        ensures right { IfSome result (λ x. M.truth.right job x.now) }
+        ensures event { IfSome result (λ x. HasHappened M.rules job x.now) }
     {
         get(self.cell(job), job)
     }

@@ -65,7 +65,7 @@ impl<X: Drop, M: Meaning<X>> Frames<X, M> {
         requires event { IsLogged M.rules W.window job value }
     {
         if let Some(loan) = loan {
-            loan.finish(job, value);
+            loan.finish::<W>(job, value);
         }
         match self.place(frame_of(job)) {
             Some(at) => self.frames[at].let_go(job),

@@ -1,5 +1,6 @@
 ghost use Rattle.std.specs.Prelude.{◌≡◌, true, IfSome};
 ghost use Rattle.job_crew.specs.Runs.{GoesOn, IsLast};
+ghost use Rattle.job_crew.specs.Events.{HasHappened};
 
 use crate::cells::Cell;
 use crate::jobs::{Jobs, LastResult, Output, Results};
@@ -35,6 +36,7 @@ impl<'r, 'c, 'f, X: Drop, M: Meaning<X>, K: Output<X>, J: Jobs<X, M, K>, R> Lent
     // A result by which the run doesn't end.
     fn find(&self, job: JobName) -> Option<&X>
         ensures right { IfSome result (λ x. M.truth.right job x.now) }
+        ensures event { IfSome result (λ x. HasHappened M.rules job x.now) }
         ensures goes_on { IfSome result (λ x. GoesOn M.rules job x.now) }
     {
         let value = find(self.at_work?, self.strips, job)?;

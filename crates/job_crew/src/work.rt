@@ -2,7 +2,7 @@
 
 ghost use Rattle.std.specs.Prelude.{◌≡◌, ◌<◌, length, Option, Some, IfSome, IsSome, IfOk};
 ghost use Rattle.std.specs.Arc.{arc_value};
-ghost use Rattle.job_crew.specs.Events.{IsLogged};
+ghost use Rattle.job_crew.specs.Events.{IsLogged, HasHappened};
 ghost use Rattle.job_crew.specs.Code.{ColumnsStay, StripsStay, gone_at};
 
 use crate::cells::{Cell, ColumnCells, frame_of, get, set};
@@ -119,7 +119,8 @@ pub(crate) fn find<'f, X: Drop, M: Meaning<X>>(
     strips: Option<&'f Strips<X, M>>,
     job: JobName,
 ) -> Option<&'f X>
-    ensures { IfSome result (λ x. M.truth.right job x.now) }
+    ensures right { IfSome result (λ x. M.truth.right job x.now) }
+    ensures event { IfSome result (λ x. HasHappened M.rules job x.now) }
 {
     get(cell_in(at_work, strips, job), job)
 }
@@ -133,8 +134,9 @@ impl<X: Drop, M: Meaning<X>> Loan<X, M> {
     }
 
     /// Sets the result of a job of the frame.
-    pub(crate) fn finish(&self, job: JobName, value: X)
-        requires { M.truth.right job value }
+    pub(crate) fn finish<W: Window>(&self, job: JobName, value: X)
+        requires right { M.truth.right job value }
+        requires event { IsLogged M.rules W.window job value }
     {
         set(cell_in(&self.at_work, self.strips(), job), job, value);
     }
