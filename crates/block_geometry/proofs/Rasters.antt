@@ -8,39 +8,31 @@ use Rattle.std.proofs.lemmas.Bool.{ltb-true}
 use Rattle.std.proofs.lemmas.List.{length-map, length-append, get_or-map, get_or-append-add, get_or_append_left}
 use Rattle.std.proofs.lemmas.List.Elements.{All-nil, All-append, All-map, filter_passes}
 use Rattle.std.proofs.lemmas.List.FromFn.{length-map-range_with_len, get_or-map-range_with_len}
-use Rattle.block_geometry.specs.TransformBlocks.{raster, multiples, starts, start_rows, start_columns, transform_blocks, grid_blocks}
+use Rattle.block_geometry.specs.TransformBlocks.{raster, multiples, starts, start_rows, start_columns, place_at, transform_blocks, grid_blocks}
 use Rattle.block_geometry.specs.declared.transform_blocks.FramePlaces.{FramePlaces}
 use Rattle.block_geometry.specs.declared.transform_blocks.PlaneBlock.{PlaneBlock}
 use Rattle.block_geometry.specs.declared.transform_blocks.TransformGrid.{TransformGrid}
+use Rattle.block_geometry.specs.declared.transform_blocks.TransformPlace.{TransformPlace}
 use Rattle.vp9_types.specs.Shapes.{halved}
 
-abbrev Pair : Type 0
-Pair = ℕ × ℕ
+-- a row of places
+at_row : (y : ℕ) (columns : List ℕ) (j : ℕ) (d : TransformPlace) → j < length columns → get_or (map (place_at y) columns) j d ≡ place_at y (get_or columns j 0)
+at_row y columns j d low = get_or-map (place_at y) columns j 0 d low
 
-nowhere : Pair
-nowhere = (0, 0)
-
-abbrev pair : ℕ → ℕ → Pair
-pair y x = (y, x)
-
--- a row of pairs
-at_row : (y : ℕ) (columns : List ℕ) (j : ℕ) (d : Pair) → j < length columns → get_or (map (pair y) columns) j d ≡ (y, get_or columns j 0)
-at_row y columns j d low = get_or-map (pair y) columns j 0 d low
-
-at_raster : (rows columns : List ℕ) (i j : ℕ) (d : Pair) → i < length rows → j < length columns
-    → get_or (raster rows columns) (i * length columns + j) d ≡ (get_or rows i 0, get_or columns j 0)
+at_raster : (rows columns : List ℕ) (i j : ℕ) (d : TransformPlace) → i < length rows → j < length columns
+    → get_or (raster rows columns) (i * length columns + j) d ≡ place_at (get_or rows i 0) (get_or columns j 0)
 at_raster [] columns i j d low inside = absurd (none i low)
   where
     none : (i : ℕ) → i < 0 → ⊥
     none i low = omega arith
 at_raster (y ∷ rows) columns zero j d low inside =
     let at : 0 * length columns + j ≡ j = omega arith in
-    let long : j < length (map (pair y) columns) = rw length-map inside in
-    rw at (get_or_append_left (map (pair y) columns) (raster rows columns) d j long ∙ at_row y columns j d inside)
+    let long : j < length (map (place_at y) columns) = rw length-map inside in
+    rw at (get_or_append_left (map (place_at y) columns) (raster rows columns) d j long ∙ at_row y columns j d inside)
 at_raster (y ∷ rows) columns (suc i) j d low inside =
-    let long : length (map (pair y) columns) ≡ length columns = length-map columns (pair y) in
-    let at : suc i * length columns + j ≡ length (map (pair y) columns) + (i * length columns + j) = rw long (more (length columns)) in
-    rw at (get_or-append-add (map (pair y) columns) (raster rows columns) (i * length columns + j) d ∙ at_raster rows columns i j d (omega arith) inside)
+    let long : length (map (place_at y) columns) ≡ length columns = length-map columns (place_at y) in
+    let at : suc i * length columns + j ≡ length (map (place_at y) columns) + (i * length columns + j) = rw long (more (length columns)) in
+    rw at (get_or-append-add (map (place_at y) columns) (raster rows columns) (i * length columns + j) d ∙ at_raster rows columns i j d (omega arith) inside)
   where
     more : (n : ℕ) → suc i * n + j ≡ n + (i * n + j)
     more n = omega (arith, ap (λ k. k) (times i n))
@@ -59,8 +51,8 @@ some_columns rows zero k low = absurd (none k (rw nothing at low))
 some_columns rows (suc n) k low = omega arith
 
 -- the k-th place of a grid
-pub at_grid : (grid : TransformGrid) (k : ℕ) (d : Pair) → k < grid.rows * grid.columns
-    → get_or (grid_blocks grid) k d ≡ pair (grid.step * (k / grid.columns)) (grid.step * (k % grid.columns))
+pub at_grid : (grid : TransformGrid) (k : ℕ) (d : TransformPlace) → k < grid.rows * grid.columns
+    → get_or (grid_blocks grid) k d ≡ place_at (grid.step * (k / grid.columns)) (grid.step * (k % grid.columns))
 at_grid grid k d low =
     let some = some_columns grid.rows grid.columns k low in
     let i = k / grid.columns in
@@ -102,12 +94,13 @@ each_start step side base end = λ k d low.
     ltb-true (base + 4 * get_or (filter (λ at. nat_lt (base + 4 * at) end) (multiples step (div_ceil side step))) k d) end
     (filter_passes (λ at. nat_lt (base + 4 * at) end) (multiples step (div_ceil side step)) k d low)
 
-all_pairs : (P Q : ℕ → Type 0) (rows columns : List ℕ) → All P rows → All Q columns → All (λ (at : Pair). P at.0 × Q at.1) (raster rows columns)
-all_pairs P Q [] columns ps qs = All-nil (λ (at : Pair). P at.0 × Q at.1)
-all_pairs P Q (y ∷ rows) columns ps qs =
-    All-append (λ (at : Pair). P at.0 × Q at.1) (map (pair y) columns) (raster rows columns)
-    (All-map (λ (at : Pair). P at.0 × Q at.1) (pair y) columns (λ k d low. (ps 0 y (first (length rows)), qs k d low)))
-    (all_pairs P Q rows columns (λ k d low. ps (suc k) d (later k (length rows) low)) qs)
+-- what holds of all rows and of all columns holds of all places
+pub all_places : (P Q : ℕ → Type 0) (rows columns : List ℕ) → All P rows → All Q columns → All (λ (at : TransformPlace). P at.row × Q at.column) (raster rows columns)
+all_places P Q [] columns ps qs = All-nil (λ (at : TransformPlace). P at.row × Q at.column)
+all_places P Q (y ∷ rows) columns ps qs =
+    All-append (λ (at : TransformPlace). P at.row × Q at.column) (map (place_at y) columns) (raster rows columns)
+    (All-map (λ (at : TransformPlace). P at.row × Q at.column) (place_at y) columns (λ k d low. (ps 0 y (first (length rows)), qs k d low)))
+    (all_places P Q rows columns (λ k d low. ps (suc k) d (later k (length rows) low)) qs)
   where
     first : (n : ℕ) → 0 < suc n
     first n = omega arith
@@ -117,10 +110,10 @@ all_pairs P Q (y ∷ rows) columns ps qs =
 
 -- the transform blocks of a block start inside its frame
 pub all_inside : (frame : FramePlaces) (b : PlaneBlock)
-    → All (λ (at : Pair). (halved b.ss_y (8 * b.row) + 4 * at.0 < halved b.ss_y (8 * frame.rows)) × (halved b.ss_x (8 * b.col) + 4 * at.1 < halved b.ss_x (8 * frame.cols)))
+    → All (λ (at : TransformPlace). (halved b.ss_y (8 * b.row) + 4 * at.row < halved b.ss_y (8 * frame.rows)) × (halved b.ss_x (8 * b.col) + 4 * at.column < halved b.ss_x (8 * frame.cols)))
     (transform_blocks frame b)
 all_inside frame b =
-    all_pairs (λ y. halved b.ss_y (8 * b.row) + 4 * y < halved b.ss_y (8 * frame.rows)) (λ x. halved b.ss_x (8 * b.col) + 4 * x < halved b.ss_x (8 * frame.cols))
+    all_places (λ y. halved b.ss_y (8 * b.row) + 4 * y < halved b.ss_y (8 * frame.rows)) (λ x. halved b.ss_x (8 * b.col) + 4 * x < halved b.ss_x (8 * frame.cols))
     (start_rows frame b) (start_columns frame b) (each_start _ _ _ _) (each_start _ _ _ _)
 
 pub length_raster : (rows columns : List ℕ) → length (raster rows columns) ≡ length rows * length columns
@@ -129,8 +122,8 @@ length_raster [] columns = sym (none (length columns))
     none : (n : ℕ) → 0 * n ≡ 0
     none n = omega arith
 length_raster (y ∷ rows) columns =
-    length-append (map (pair y) columns) (raster rows columns)
-    ∙ (rw (length-map columns (pair y), length_raster rows columns) (more (length rows) (length columns)))
+    length-append (map (place_at y) columns) (raster rows columns)
+    ∙ (rw (length-map columns (place_at y), length_raster rows columns) (more (length rows) (length columns)))
   where
     more : (a n : ℕ) → n + a * n ≡ suc a * n
     more a n = omega arith

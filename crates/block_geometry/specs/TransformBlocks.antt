@@ -10,6 +10,7 @@ use Rattle.vp9_types.specs.Shapes.{halved}
 use Rattle.block_geometry.specs.declared.transform_blocks.PlaneBlock.{PlaneBlock}
 use Rattle.block_geometry.specs.declared.transform_blocks.FramePlaces.{FramePlaces}
 use Rattle.block_geometry.specs.declared.transform_blocks.TransformGrid.{TransformGrid}
+use Rattle.block_geometry.specs.declared.transform_blocks.TransformPlace.{TransformPlace}
 
 -- a side of a block in a plane, in 4s. A block below 8x8 counts as 8x8
 abbrev pub plane_side : Bool → ℕ → ℕ
@@ -23,9 +24,13 @@ multiples step n = map (λ k. step * k) (range_with_len 0 n)
 unfoldable pub starts : ℕ → ℕ → ℕ → ℕ → List ℕ
 starts step side base end = filter (λ at. nat_lt (base + 4 * at) end) (multiples step (div_ceil side step))
 
+-- the place at a row and a column
+abbrev pub place_at : ℕ → ℕ → TransformPlace
+place_at y x = record { row = y; column = x }
+
 -- rows and columns in raster order
-abbrev pub raster : List ℕ → List ℕ → List (ℕ × ℕ)
-raster rows columns = flat_map (λ y. map (λ x. (y, x)) columns) rows
+abbrev pub raster : List ℕ → List ℕ → List TransformPlace
+raster rows columns = flat_map (λ y. map (place_at y) columns) rows
 
 -- 4s along a side of a transform
 abbrev pub tx_step : TxSize → ℕ
@@ -39,10 +44,10 @@ abbrev pub start_columns : FramePlaces → PlaneBlock → List ℕ
 start_columns frame block =
     starts (tx_step block.tx) (plane_side block.ss_x (width_of block.size)) (halved block.ss_x (8 * block.col)) (halved block.ss_x (8 * frame.cols))
 
--- row and column of each, in 4s from the block's corner
-abbrev pub transform_blocks : FramePlaces → PlaneBlock → List (ℕ × ℕ)
+-- where each of them begins
+abbrev pub transform_blocks : FramePlaces → PlaneBlock → List TransformPlace
 transform_blocks frame block = raster (start_rows frame block) (start_columns frame block)
 
 -- those of a grid
-abbrev pub grid_blocks : TransformGrid → List (ℕ × ℕ)
+abbrev pub grid_blocks : TransformGrid → List TransformPlace
 grid_blocks grid = raster (multiples grid.step grid.rows) (multiples grid.step grid.columns)

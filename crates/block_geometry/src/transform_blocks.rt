@@ -4,7 +4,7 @@ ghost use Rattle.std.specs.Prelude.{◌≡◌, ◌≤◌, ◌<◌, ◌+◌, ◌*
 ghost use Rattle.vp9_types.specs.Shapes.{halved};
 ghost use Rattle.std.specs.Int.{div_ceil};
 ghost use Rattle.block_geometry.specs.Code.{IsSmallGrid};
-ghost use Rattle.block_geometry.specs.TransformBlocks.{starts, multiples, plane_side, tx_step, transform_blocks, grid_blocks};
+ghost use Rattle.block_geometry.specs.TransformBlocks.{starts, multiples, plane_side, tx_step, place_at, transform_blocks, grid_blocks};
 
 use vp9_tables::block_size;
 use vp9_types::{BlockSize, Shape, TxSize};
@@ -43,6 +43,13 @@ pub struct PlaneBlock {
     pub ss_y: bool,
 }
 
+/// Where a transform block begins: a row and a column, in 4s from its block's corner.
+#[derive(Clone, Copy, Debug, PartialEq, Eq)]
+pub struct TransformPlace {
+    pub row: usize,
+    pub column: usize,
+}
+
 /// Transform blocks in rows and columns, each so many 4s from the one before it.
 #[derive(Clone, Copy, Debug, PartialEq, Eq)]
 pub struct TransformGrid {
@@ -61,21 +68,24 @@ impl TransformGrid {
         self.rows * self.columns
     }
 
-    /// Row and column of the k-th, in 4s from the block's corner.
-    pub fn place(&self, k: u32) -> (usize, usize)
+    /// Where the k-th begins.
+    pub fn place(&self, k: u32) -> TransformPlace
         requires count { k < self.now.rows * self.now.columns }
         requires small { IsSmallGrid self.now }
-        ensures place { get_or (grid_blocks self.now) k (0, 0) ≡ (result.0, result.1) }
-        ensures low { result.0 < 16 }
-        ensures near { result.1 < 16 }
+        ensures place { get_or (grid_blocks self.now) k (place_at 0 0) ≡ result }
+        ensures low { result.row < 16 }
+        ensures near { result.column < 16 }
     {
         // a division is slow, and most blocks have one transform block
         if k == 0 {
-            return (0, 0);
+            return TransformPlace { row: 0, column: 0 };
         }
         let row = k / self.columns;
         let column = k % self.columns;
-        ((self.step * row) as usize, (self.step * column) as usize)
+        TransformPlace {
+            row: (self.step * row) as usize,
+            column: (self.step * column) as usize,
+        }
     }
 }
 

@@ -1,6 +1,7 @@
 -- The blocks of inter frames are put in one way.
 use Rattle.std.proofs.Common.{◌≡◌, ℕ, ◌*◌, List, [], ◌∷◌, ◌++◌, Bool, true, false, ◌&&◌, drop, append_assoc, refl, sym, subst, ap, ◌∙◌}
 use Rattle.std.specs.Prelude.{Option, Some, None, Result, Ok, Err, if◌then◌else◌}
+use Rattle.std.specs.List.{flat_map}
 use Rattle.vp9_types.specs.Syntax.{Syntax}
 use Rattle.vp9_types.specs.declared.block.BlockSize.{BlockSize}
 use Rattle.vp9_types.specs.declared.block.BlockSize.TheVariants.{B4x4, B4x8, B8x4, B8x8, B8x16, B16x8, B16x16, B16x32, B32x16, B32x32, B32x64, B64x32, B64x64}
@@ -16,7 +17,7 @@ use Rattle.vp9_tables.specs.Numbers.{filter_number, inter_number, intra_number}
 use Rattle.vp9_tables.specs.SymbolTrees.{filter_tree, inter_mode_tree, intra_mode_tree}
 use Rattle.bool_encoder.specs.Part.{NumberPart}
 use Rattle.bool_lists.specs.BoolLists.{BoolList, HasPut, tree_bools}
-use Rattle.bool_lists.proofs.Ways.{of_leaf, spells_on, spells_none}
+use Rattle.bool_lists.proofs.Ways.{of_leaf, spells_on, spells_none, spells_same}
 use Rattle.frame_headers.specs.declared.header.FrameFilter.{FrameFilter}
 use Rattle.frame_headers.specs.declared.header.FrameFilter.TheVariants.{Fixed, Switchable}
 use Rattle.frame_headers.specs.declared.header.FrameKind.{FrameKind}
@@ -51,12 +52,12 @@ use Rattle.inter_modes.specs.Code.{four_coded_modes, four_quarters, coded_by_siz
 use Rattle.inter_modes.specs.IntraBlocks.{intra_block_mode_info, intra_mode as coded_intra_mode, luma_modes, uv_mode as coded_uv_mode}
 use Rattle.inter_modes.specs.ModeInfo.{BlockSources, InterFrame, block_mode, block_of_quarters, block_with, by_kind, checked_references, filter_of_symbol, inter_block, inter_frame_block, inter_frame_mode_info, inter_prediction, interp_filter, intra_coded_block, intra_frame_block, mode_info, quarters_prediction, whole_block, whole_prediction}
 use Rattle.inter_modes.specs.BlockStarts.{segment_reference}
-use Rattle.inter_modes.specs.BlockVectors.{Sources, best_mv, block_vector, block_vectors, carried, inter_mode, inter_of, near_of_block, quarter, quarter_vector, quarter_vectors, quarters, row_vectors, vector_of_mode, with_second, ◌>>?◌}
+use Rattle.inter_modes.specs.BlockVectors.{Sources, best_mv, block_vector, block_vectors, carried, inter_mode, inter_of, near_of_block, quarter, quarter_vector, quarter_vectors, quarters, vector_of_mode, with_second, ◌>>?◌}
 use Rattle.inter_modes.specs.declared.quarters.Quarter.{Quarter}
 use Rattle.inter_modes.specs.declared.quarters.QuartersBefore.{QuartersBefore}
 use Rattle.inter_modes.specs.declared.starts.BlockStart.{BlockStart}
-use Rattle.block_lists.specs.InterLists.{inter_mode_of, spelled_block_mode, spelled_by_kind, spelled_by_prediction, spelled_filter, spelled_inter_beside, spelled_inter_mode, spelled_intra, spelled_luma, spelled_mode, spelled_mode_info, spelled_of_quarters, spelled_prediction, spelled_quarter, spelled_quarter_of, spelled_quarters, spelled_second, spelled_vector, spelled_vectors, spelled_whole, start_of}
-use Rattle.block_lists.specs.IntraLists.{mode_of, spelled_intra_frame}
+use Rattle.block_lists.specs.InterLists.{spelled_block_mode, spelled_by_kind, spelled_by_prediction, spelled_filter, spelled_inter_beside, spelled_inter_mode, spelled_intra, spelled_luma, spelled_mode, spelled_mode_info, spelled_modes, spelled_of_quarters, spelled_prediction, spelled_quarter, spelled_quarter_of, spelled_quarters, spelled_second, spelled_vector, spelled_vectors, spelled_whole, start_of}
+use Rattle.block_lists.specs.IntraLists.{spelled_intra_frame}
 use Rattle.block_lists.specs.ReferenceLists.{spelled_references}
 use Rattle.block_lists.proofs.Counted.{two_put, settle_put, tree_put}
 use Rattle.block_lists.proofs.IntraWays.{intra_frame_way, intra_numbers}
@@ -184,37 +185,34 @@ quarter_way s probs context refs k before q old new h =
 abbrev Predicted : ReferenceFrames → InterpFilter → List Quarter → InterPrediction
 Predicted refs filter qs = quarters_prediction refs filter qs
 
+-- those of some quarters
+abbrev OfQuarters : Sources → List ℕ → ℕ → ReferenceFrames → InterpFilter → List ℕ → List Quarter → BoolList
+OfQuarters s probs context refs filter ks qs = flat_map (spelled_quarter_of s probs context (Predicted refs filter qs)) ks
+
 columns_way : (s : Sources) (probs : List ℕ) (context : ℕ) (refs : ReferenceFrames) (filter : InterpFilter) (qs : List Quarter) (old new : NumberPart)
-    → PutsValue (quarter_columns s probs context refs (best_mv s refs)) old (Ok qs) new → HasPut old (spelled_quarters s probs context B4x8 (Predicted refs filter qs)) new
-unfolding quarter_columns spelled_quarters spelled_quarter_of
+    → PutsValue (quarter_columns s probs context refs (best_mv s refs)) old (Ok qs) new → HasPut old (OfQuarters s probs context refs filter (0 ∷ 1 ∷ []) qs) new
+unfolding quarter_columns spelled_quarter_of
 columns_way s probs context refs filter qs old new h =
     let a = kept _ _ old new qs h in
     let b = kept _ _ a.mid new qs a.second in
     let e = ok_settled {A = List Quarter} (a.x ∷ b.x ∷ a.x ∷ b.x ∷ []) qs b.mid new b.second in
-    let one = quarter_way s probs context refs 0 _ a.x old a.mid a.first in
-    let two = spells_on old a.mid b.mid _ _ (quarter_way s probs context refs 1 _ b.x a.mid b.mid b.first) one in
-    subst (λ (p : List Quarter × NumberPart). HasPut old (spelled_quarter s probs context refs (best_mv s refs) (inter_mode_of (Predicted refs filter p.0) 0) (row_vectors (Predicted refs filter p.0).vectors 0)
-    ++ spelled_quarter s probs context refs (best_mv s refs) (inter_mode_of (Predicted refs filter p.0) 1) (row_vectors (Predicted refs filter p.0).vectors 1)) p.1) (λ i. (e.0 i, e.1 i)) two
+    let one = spells_same a.mid b.mid _ (quarter_way s probs context refs 1 _ b.x a.mid b.mid b.first) in
+    let two = spells_on old a.mid b.mid _ _ one (quarter_way s probs context refs 0 _ a.x old a.mid a.first) in
+    subst (λ (p : List Quarter × NumberPart). HasPut old (OfQuarters s probs context refs filter (0 ∷ 1 ∷ []) p.0) p.1) (λ i. (e.0 i, e.1 i)) two
 
 rows_way : (s : Sources) (probs : List ℕ) (context : ℕ) (refs : ReferenceFrames) (filter : InterpFilter) (qs : List Quarter) (old new : NumberPart)
-    → PutsValue (quarter_rows s probs context refs (best_mv s refs)) old (Ok qs) new → HasPut old (spelled_quarters s probs context B8x4 (Predicted refs filter qs)) new
-unfolding quarter_rows spelled_quarters spelled_quarter_of
+    → PutsValue (quarter_rows s probs context refs (best_mv s refs)) old (Ok qs) new → HasPut old (OfQuarters s probs context refs filter (0 ∷ 2 ∷ []) qs) new
+unfolding quarter_rows spelled_quarter_of
 rows_way s probs context refs filter qs old new h =
     let a = kept _ _ old new qs h in
     let b = kept _ _ a.mid new qs a.second in
     let e = ok_settled {A = List Quarter} (a.x ∷ a.x ∷ b.x ∷ b.x ∷ []) qs b.mid new b.second in
-    let one = quarter_way s probs context refs 0 _ a.x old a.mid a.first in
-    let two = spells_on old a.mid b.mid _ _ (quarter_way s probs context refs 2 _ b.x a.mid b.mid b.first) one in
-    subst (λ (p : List Quarter × NumberPart). HasPut old (spelled_quarter s probs context refs (best_mv s refs) (inter_mode_of (Predicted refs filter p.0) 0) (row_vectors (Predicted refs filter p.0).vectors 0)
-    ++ spelled_quarter s probs context refs (best_mv s refs) (inter_mode_of (Predicted refs filter p.0) 2) (row_vectors (Predicted refs filter p.0).vectors 2)) p.1) (λ i. (e.0 i, e.1 i)) two
-
-abbrev FourPut : Sources → List ℕ → ℕ → ReferenceFrames → InterpFilter → List Quarter → BoolList
-FourPut s probs context refs filter qs =
-    spelled_quarter_of s probs context (Predicted refs filter qs) 0 ++ spelled_quarter_of s probs context (Predicted refs filter qs) 1
-    ++ spelled_quarter_of s probs context (Predicted refs filter qs) 2 ++ spelled_quarter_of s probs context (Predicted refs filter qs) 3
+    let one = spells_same a.mid b.mid _ (quarter_way s probs context refs 2 _ b.x a.mid b.mid b.first) in
+    let two = spells_on old a.mid b.mid _ _ one (quarter_way s probs context refs 0 _ a.x old a.mid a.first) in
+    subst (λ (p : List Quarter × NumberPart). HasPut old (OfQuarters s probs context refs filter (0 ∷ 2 ∷ []) p.0) p.1) (λ i. (e.0 i, e.1 i)) two
 
 four_way : (s : Sources) (probs : List ℕ) (context : ℕ) (refs : ReferenceFrames) (filter : InterpFilter) (qs : List Quarter) (old new : NumberPart)
-    → PutsValue (four_quarters s probs context refs (best_mv s refs)) old (Ok qs) new → HasPut old (FourPut s probs context refs filter qs) new
+    → PutsValue (four_quarters s probs context refs (best_mv s refs)) old (Ok qs) new → HasPut old (OfQuarters s probs context refs filter (0 ∷ 1 ∷ 2 ∷ 3 ∷ []) qs) new
 unfolding four_quarters spelled_quarter_of
 four_way s probs context refs filter qs old new h =
     let a = kept _ _ old new qs h in
@@ -222,33 +220,37 @@ four_way s probs context refs filter qs old new h =
     let c = kept _ _ b.mid new qs b.second in
     let d = kept _ _ c.mid new qs c.second in
     let e = ok_settled {A = List Quarter} (a.x ∷ b.x ∷ c.x ∷ d.x ∷ []) qs d.mid new d.second in
-    let one = quarter_way s probs context refs 0 _ a.x old a.mid a.first in
-    let two = spells_on old a.mid b.mid _ _ (quarter_way s probs context refs 1 _ b.x a.mid b.mid b.first) one in
-    let three = spells_on old b.mid c.mid _ _ (quarter_way s probs context refs 2 _ c.x b.mid c.mid c.first) two in
-    let four = spells_on old c.mid d.mid _ _ (quarter_way s probs context refs 3 _ d.x c.mid d.mid d.first) three in
-    subst (λ (p : List Quarter × NumberPart). HasPut old (FourPut s probs context refs filter p.0) p.1) (λ i. (e.0 i, e.1 i)) four
+    let one = spells_same c.mid d.mid _ (quarter_way s probs context refs 3 _ d.x c.mid d.mid d.first) in
+    let two = spells_on b.mid c.mid d.mid _ _ one (quarter_way s probs context refs 2 _ c.x b.mid c.mid c.first) in
+    let three = spells_on a.mid b.mid d.mid _ _ two (quarter_way s probs context refs 1 _ b.x a.mid b.mid b.first) in
+    let four = spells_on old a.mid d.mid _ _ three (quarter_way s probs context refs 0 _ a.x old a.mid a.first) in
+    subst (λ (p : List Quarter × NumberPart). HasPut old (OfQuarters s probs context refs filter (0 ∷ 1 ∷ 2 ∷ 3 ∷ []) p.0) p.1) (λ i. (e.0 i, e.1 i)) four
 
-by_size_way : (s : Sources) (probs : List ℕ) (context : ℕ) (refs : ReferenceFrames) (filter : InterpFilter) (size : BlockSize) (qs : List Quarter) (old new : NumberPart)
+-- no block of 8x8 or more has quarters of its own
+not_below : false ≡ true → ⊥
+not_below e = cc
+
+by_size_way : (s : Sources) (probs : List ℕ) (context : ℕ) (refs : ReferenceFrames) (filter : InterpFilter) (size : BlockSize) (qs : List Quarter) (old new : NumberPart) → is_below_8x8 size ≡ true
     → PutsValue (quarters_by_size s probs context refs size) old (Ok qs) new → HasPut old (spelled_quarters s probs context size (Predicted refs filter qs)) new
 unfolding quarters_by_size spelled_quarters
-by_size_way s probs context refs filter B4x8 qs old new h = columns_way s probs context refs filter qs old new h
-by_size_way s probs context refs filter B8x4 qs old new h = rows_way s probs context refs filter qs old new h
-by_size_way s probs context refs filter B4x4 qs old new h = four_way s probs context refs filter qs old new h
-by_size_way s probs context refs filter B8x8 qs old new h = four_way s probs context refs filter qs old new h
-by_size_way s probs context refs filter B8x16 qs old new h = four_way s probs context refs filter qs old new h
-by_size_way s probs context refs filter B16x8 qs old new h = four_way s probs context refs filter qs old new h
-by_size_way s probs context refs filter B16x16 qs old new h = four_way s probs context refs filter qs old new h
-by_size_way s probs context refs filter B16x32 qs old new h = four_way s probs context refs filter qs old new h
-by_size_way s probs context refs filter B32x16 qs old new h = four_way s probs context refs filter qs old new h
-by_size_way s probs context refs filter B32x32 qs old new h = four_way s probs context refs filter qs old new h
-by_size_way s probs context refs filter B32x64 qs old new h = four_way s probs context refs filter qs old new h
-by_size_way s probs context refs filter B64x32 qs old new h = four_way s probs context refs filter qs old new h
-by_size_way s probs context refs filter B64x64 qs old new h = four_way s probs context refs filter qs old new h
+by_size_way s probs context refs filter B4x8 qs old new below h = columns_way s probs context refs filter qs old new h
+by_size_way s probs context refs filter B8x4 qs old new below h = rows_way s probs context refs filter qs old new h
+by_size_way s probs context refs filter B4x4 qs old new below h = four_way s probs context refs filter qs old new h
+by_size_way s probs context refs filter B8x8 qs old new below h = absurd (not_below below)
+by_size_way s probs context refs filter B8x16 qs old new below h = absurd (not_below below)
+by_size_way s probs context refs filter B16x8 qs old new below h = absurd (not_below below)
+by_size_way s probs context refs filter B16x16 qs old new below h = absurd (not_below below)
+by_size_way s probs context refs filter B16x32 qs old new below h = absurd (not_below below)
+by_size_way s probs context refs filter B32x16 qs old new below h = absurd (not_below below)
+by_size_way s probs context refs filter B32x32 qs old new below h = absurd (not_below below)
+by_size_way s probs context refs filter B32x64 qs old new below h = absurd (not_below below)
+by_size_way s probs context refs filter B64x32 qs old new below h = absurd (not_below below)
+by_size_way s probs context refs filter B64x64 qs old new below h = absurd (not_below below)
 
 quarters_way : (s : Sources) (probs : List ℕ) (context : ℕ) (refs : ReferenceFrames) (filter : InterpFilter) (size : BlockSize) (qs : List Quarter) (old new : NumberPart) → is_below_8x8 size ≡ true
     → PutsValue (quarters s probs context refs size) old (Ok qs) new → HasPut old (spelled_quarters s probs context size (Predicted refs filter qs)) new
 quarters_way s probs context refs filter size qs old new below h =
-    by_size_way s probs context refs filter size qs old new (subst (λ t. PutsValue t old (Ok qs) new) (quarters_of_size s probs context refs size below) h)
+    by_size_way s probs context refs filter size qs old new below (subst (λ t. PutsValue t old (Ok qs) new) (quarters_of_size s probs context refs size below) h)
 
 ---- Predictions ----
 
@@ -314,33 +316,36 @@ uv_way probs luma mode old new h =
     let is : a.x ≡ intra_number mode = sym (intra_numbers a.x t.1) ∙ ap intra_number e.0 in
     subst (λ n. HasPut old (tree_bools intra_mode_tree (drop (9 * intra_number luma) probs) n) new) is (subst (λ m. HasPut old (tree_bools intra_mode_tree (drop (9 * intra_number luma) probs) a.x) m) e.1 t.0)
 
-intra_one : (probs : List ℕ) (group : ℕ) (luma : List IntraMode) (old new : NumberPart) → PutsValue (one_coded_mode probs group) old luma new → HasPut old (spelled_mode probs group (mode_of luma 0)) new
+intra_one : (probs : List ℕ) (group : ℕ) (luma : List IntraMode) (old new : NumberPart) → PutsValue (one_coded_mode probs group) old luma new → HasPut old (spelled_modes probs group luma (0 ∷ [])) new
 unfolding one_coded_mode
 intra_one probs group luma old new h =
     let a = two_put _ _ old new luma h in
     let e = settle_put {A = List IntraMode} (a.x ∷ a.x ∷ a.x ∷ a.x ∷ []) luma a.mid new a.second in
-    subst (λ (p : List IntraMode × NumberPart). HasPut old (spelled_mode probs group (mode_of p.0 0)) p.1) (λ i. (e.0 i, e.1 i)) (intra_mode_way probs group a.x old a.mid a.first)
+    subst (λ (p : List IntraMode × NumberPart). HasPut old (spelled_modes probs group p.0 (0 ∷ [])) p.1) (λ i. (e.0 i, e.1 i))
+    (spells_same old a.mid _ (intra_mode_way probs group a.x old a.mid a.first))
 
-intra_rows : (probs : List ℕ) (luma : List IntraMode) (old new : NumberPart) → PutsValue (coded_mode_rows probs) old luma new → HasPut old (spelled_mode probs 0 (mode_of luma 0) ++ spelled_mode probs 0 (mode_of luma 2)) new
+intra_rows : (probs : List ℕ) (luma : List IntraMode) (old new : NumberPart) → PutsValue (coded_mode_rows probs) old luma new → HasPut old (spelled_modes probs 0 luma (0 ∷ 2 ∷ [])) new
 unfolding coded_mode_rows
 intra_rows probs luma old new h =
     let a = two_put _ _ old new luma h in
     let b = two_put _ _ a.mid new luma a.second in
     let e = settle_put {A = List IntraMode} (a.x ∷ a.x ∷ b.x ∷ b.x ∷ []) luma b.mid new b.second in
-    subst (λ (p : List IntraMode × NumberPart). HasPut old (spelled_mode probs 0 (mode_of p.0 0) ++ spelled_mode probs 0 (mode_of p.0 2)) p.1) (λ i. (e.0 i, e.1 i))
-    (spells_on old a.mid b.mid _ _ (intra_mode_way probs 0 b.x a.mid b.mid b.first) (intra_mode_way probs 0 a.x old a.mid a.first))
+    let one = spells_same a.mid b.mid _ (intra_mode_way probs 0 b.x a.mid b.mid b.first) in
+    subst (λ (p : List IntraMode × NumberPart). HasPut old (spelled_modes probs 0 p.0 (0 ∷ 2 ∷ [])) p.1) (λ i. (e.0 i, e.1 i))
+    (spells_on old a.mid b.mid _ _ one (intra_mode_way probs 0 a.x old a.mid a.first))
 
-intra_columns : (probs : List ℕ) (luma : List IntraMode) (old new : NumberPart) → PutsValue (coded_mode_columns probs) old luma new → HasPut old (spelled_mode probs 0 (mode_of luma 0) ++ spelled_mode probs 0 (mode_of luma 1)) new
+intra_columns : (probs : List ℕ) (luma : List IntraMode) (old new : NumberPart) → PutsValue (coded_mode_columns probs) old luma new → HasPut old (spelled_modes probs 0 luma (0 ∷ 1 ∷ [])) new
 unfolding coded_mode_columns
 intra_columns probs luma old new h =
     let a = two_put _ _ old new luma h in
     let b = two_put _ _ a.mid new luma a.second in
     let e = settle_put {A = List IntraMode} (a.x ∷ b.x ∷ a.x ∷ b.x ∷ []) luma b.mid new b.second in
-    subst (λ (p : List IntraMode × NumberPart). HasPut old (spelled_mode probs 0 (mode_of p.0 0) ++ spelled_mode probs 0 (mode_of p.0 1)) p.1) (λ i. (e.0 i, e.1 i))
-    (spells_on old a.mid b.mid _ _ (intra_mode_way probs 0 b.x a.mid b.mid b.first) (intra_mode_way probs 0 a.x old a.mid a.first))
+    let one = spells_same a.mid b.mid _ (intra_mode_way probs 0 b.x a.mid b.mid b.first) in
+    subst (λ (p : List IntraMode × NumberPart). HasPut old (spelled_modes probs 0 p.0 (0 ∷ 1 ∷ [])) p.1) (λ i. (e.0 i, e.1 i))
+    (spells_on old a.mid b.mid _ _ one (intra_mode_way probs 0 a.x old a.mid a.first))
 
 intra_four : (probs : List ℕ) (luma : List IntraMode) (old new : NumberPart) → PutsValue (four_coded_modes probs) old luma new
-    → HasPut old (spelled_mode probs 0 (mode_of luma 0) ++ spelled_mode probs 0 (mode_of luma 1) ++ spelled_mode probs 0 (mode_of luma 2) ++ spelled_mode probs 0 (mode_of luma 3)) new
+    → HasPut old (spelled_modes probs 0 luma (0 ∷ 1 ∷ 2 ∷ 3 ∷ [])) new
 unfolding four_coded_modes
 intra_four probs luma old new h =
     let a = two_put _ _ old new luma h in
@@ -348,11 +353,11 @@ intra_four probs luma old new h =
     let c = two_put _ _ b.mid new luma b.second in
     let d = two_put _ _ c.mid new luma c.second in
     let e = settle_put {A = List IntraMode} (a.x ∷ b.x ∷ c.x ∷ d.x ∷ []) luma d.mid new d.second in
-    let two = spells_on old a.mid b.mid _ _ (intra_mode_way probs 0 b.x a.mid b.mid b.first) (intra_mode_way probs 0 a.x old a.mid a.first) in
-    let three = spells_on old b.mid c.mid _ _ (intra_mode_way probs 0 c.x b.mid c.mid c.first) two in
-    let four = spells_on old c.mid d.mid _ _ (intra_mode_way probs 0 d.x c.mid d.mid d.first) three in
-    subst (λ (p : List IntraMode × NumberPart). HasPut old (spelled_mode probs 0 (mode_of p.0 0) ++ spelled_mode probs 0 (mode_of p.0 1) ++ spelled_mode probs 0 (mode_of p.0 2) ++ spelled_mode probs 0 (mode_of p.0 3)) p.1)
-    (λ i. (e.0 i, e.1 i)) four
+    let one = spells_same c.mid d.mid _ (intra_mode_way probs 0 d.x c.mid d.mid d.first) in
+    let two = spells_on b.mid c.mid d.mid _ _ one (intra_mode_way probs 0 c.x b.mid c.mid c.first) in
+    let three = spells_on a.mid b.mid d.mid _ _ two (intra_mode_way probs 0 b.x a.mid b.mid b.first) in
+    let four = spells_on old a.mid d.mid _ _ three (intra_mode_way probs 0 a.x old a.mid a.first) in
+    subst (λ (p : List IntraMode × NumberPart). HasPut old (spelled_modes probs 0 p.0 (0 ∷ 1 ∷ 2 ∷ 3 ∷ [])) p.1) (λ i. (e.0 i, e.1 i)) four
 
 intra_by_size : (probs : List ℕ) (size : BlockSize) (luma : List IntraMode) (old new : NumberPart) → PutsValue (coded_by_size probs size) old luma new → HasPut old (spelled_luma probs size luma) new
 unfolding coded_by_size spelled_luma

@@ -1,6 +1,7 @@
 -- The partitions and blocks of intra frames are put in one way.
-use Rattle.std.proofs.Common.{◌≡◌, ℕ, ◌*◌, List, [], ◌++◌, Bool, true, false, not, ◌&&◌, drop, refl, sym, subst, ap, ◌∙◌}
+use Rattle.std.proofs.Common.{◌≡◌, ℕ, ◌*◌, List, [], ◌∷◌, ◌++◌, Bool, true, false, not, ◌&&◌, drop, refl, sym, subst, ap, ◌∙◌}
 use Rattle.std.specs.Prelude.{Option, Some, None, slice_index, if◌then◌else◌}
+use Rattle.std.specs.List.{flat_map}
 use Rattle.vp9_types.specs.Trees.{tree_symbol}
 use Rattle.vp9_types.specs.declared.block.BlockSize.{BlockSize}
 use Rattle.vp9_types.specs.declared.block.BlockSize.TheVariants.{B4x4, B4x8, B8x4, B8x8, B8x16, B16x8, B16x16, B16x32, B32x16, B32x32, B32x64, B64x32, B64x64}
@@ -32,11 +33,11 @@ use Rattle.mode_syntax.specs.IntraModes.{default_intra_mode, default_uv_mode, ed
 use Rattle.mode_syntax.specs.IntraModeInfo.{intra_frame_mode_info, mode_info_beside}
 use Rattle.mode_syntax.specs.declared.intra_modes.EdgeModes.{EdgeModes}
 use Rattle.mode_syntax.specs.declared.square_at.SquareAt.{SquareAt}
-use Rattle.block_lists.specs.IntraLists.{chroma_of, luma_of, mode_of, spelled_beside, spelled_default, spelled_intra_frame, spelled_default_luma, spelled_intra_mode, spelled_segment, spelled_skip, spelled_tx, spelled_tx_symbol, spelled_uv}
+use Rattle.block_lists.specs.IntraLists.{chroma_of, luma_of, mode_of, spelled_beside, spelled_default, spelled_default_luma, spelled_default_of, spelled_intra_frame, spelled_intra_mode, spelled_segment, spelled_skip, spelled_tx, spelled_tx_symbol, spelled_uv}
 use Rattle.bool_encoder.specs.Part.{NumberPart}
 use Rattle.bool_encoder.specs.WrittenBools.{Puts}
-use Rattle.bool_lists.specs.BoolLists.{HasPut, is_distinct, one_bool, tree_bools}
-use Rattle.bool_lists.proofs.Ways.{between, of_leaf, flag_way, has_one, tree_way, spells_on, spells_none}
+use Rattle.bool_lists.specs.BoolLists.{BoolList, HasPut, is_distinct, one_bool, tree_bools}
+use Rattle.bool_lists.proofs.Ways.{between, of_leaf, flag_way, has_one, tree_way, spells_on, spells_none, spells_same}
 use Rattle.bool_encoder.specs.CountedBools.{PutsValue}
 use Rattle.counting_reader.specs.Counting.{settle, uncounted}
 use Rattle.mode_syntax.specs.Partitions.{edge_symbol, partition, partition_at, partition_of, partition_value, split_or, whole_symbol}
@@ -165,28 +166,37 @@ uv_way : (luma mode : IntraMode) (old new : NumberPart) → Puts (default_uv_mod
 unfolding default_uv_mode spelled_uv
 uv_way luma mode old new h = mode_way _ mode old new h
 
-one_way : (edge : EdgeModes) (luma : List IntraMode) (old new : NumberPart) → Puts (one_mode edge) old luma new → HasPut old (spelled_default edge.above_first edge.left_first (mode_of luma 0)) new
+-- those of some quarters
+abbrev OfQuarters : EdgeModes → List ℕ → List IntraMode → BoolList
+OfQuarters edge quarters luma = flat_map (spelled_default_of edge luma) quarters
+
+one_way : (edge : EdgeModes) (luma : List IntraMode) (old new : NumberPart) → Puts (one_mode edge) old luma new → HasPut old (OfQuarters edge (0 ∷ []) luma) new
 unfolding one_mode
 one_way edge luma old new h =
     let a = between _ _ old new luma h in
-    subst (λ l. HasPut old (spelled_default edge.above_first edge.left_first (mode_of l 0)) new) a.second.0
-    (subst (λ m. HasPut old (spelled_default edge.above_first edge.left_first a.x) m) a.second.1 (default_way _ _ a.x old a.mid a.first))
+    let one = spells_same old a.mid _ (default_way edge.above_first edge.left_first a.x old a.mid a.first) in
+    subst (λ l. HasPut old (OfQuarters edge (0 ∷ []) l) new) a.second.0
+    (subst (λ m. HasPut old (OfQuarters edge (0 ∷ []) (a.x ∷ a.x ∷ a.x ∷ a.x ∷ [])) m) a.second.1 one)
 
 rows_way : (edge : EdgeModes) (luma : List IntraMode) (old new : NumberPart) → Puts (two_rows edge) old luma new → HasPut old (spelled_default_luma B8x4 edge luma) new
 unfolding two_rows spelled_default_luma
 rows_way edge luma old new h =
     let a = between _ _ old new luma h in
     let b = between _ _ a.mid new luma a.second in
-    subst (λ l. HasPut old (spelled_default edge.above_first edge.left_first (mode_of l 0) ++ spelled_default (mode_of l 0) edge.left_second (mode_of l 2)) new) b.second.0
-    (spells_on old a.mid new _ _ (subst (λ m. HasPut a.mid (spelled_default a.x edge.left_second b.x) m) b.second.1 (default_way _ _ b.x a.mid b.mid b.first)) (default_way _ _ a.x old a.mid a.first))
+    let one = spells_same a.mid b.mid _ (default_way a.x edge.left_second b.x a.mid b.mid b.first) in
+    let two = spells_on old a.mid b.mid _ _ one (default_way edge.above_first edge.left_first a.x old a.mid a.first) in
+    subst (λ l. HasPut old (OfQuarters edge (0 ∷ 2 ∷ []) l) new) b.second.0
+    (subst (λ m. HasPut old (OfQuarters edge (0 ∷ 2 ∷ []) (a.x ∷ a.x ∷ b.x ∷ b.x ∷ [])) m) b.second.1 two)
 
 columns_way : (edge : EdgeModes) (luma : List IntraMode) (old new : NumberPart) → Puts (two_columns edge) old luma new → HasPut old (spelled_default_luma B4x8 edge luma) new
 unfolding two_columns spelled_default_luma
 columns_way edge luma old new h =
     let a = between _ _ old new luma h in
     let b = between _ _ a.mid new luma a.second in
-    subst (λ l. HasPut old (spelled_default edge.above_first edge.left_first (mode_of l 0) ++ spelled_default edge.above_second (mode_of l 0) (mode_of l 1)) new) b.second.0
-    (spells_on old a.mid new _ _ (subst (λ m. HasPut a.mid (spelled_default edge.above_second a.x b.x) m) b.second.1 (default_way _ _ b.x a.mid b.mid b.first)) (default_way _ _ a.x old a.mid a.first))
+    let one = spells_same a.mid b.mid _ (default_way edge.above_second a.x b.x a.mid b.mid b.first) in
+    let two = spells_on old a.mid b.mid _ _ one (default_way edge.above_first edge.left_first a.x old a.mid a.first) in
+    subst (λ l. HasPut old (OfQuarters edge (0 ∷ 1 ∷ []) l) new) b.second.0
+    (subst (λ m. HasPut old (OfQuarters edge (0 ∷ 1 ∷ []) (a.x ∷ b.x ∷ a.x ∷ b.x ∷ [])) m) b.second.1 two)
 
 four_way : (edge : EdgeModes) (luma : List IntraMode) (old new : NumberPart) → Puts (four_modes edge) old luma new → HasPut old (spelled_default_luma B4x4 edge luma) new
 unfolding four_modes spelled_default_luma
@@ -195,13 +205,12 @@ four_way edge luma old new h =
     let b = between _ _ a.mid new luma a.second in
     let c = between _ _ b.mid new luma b.second in
     let d = between _ _ c.mid new luma c.second in
-    let two = spells_on old a.mid b.mid _ _ (default_way edge.above_second a.x b.x a.mid b.mid b.first) (default_way edge.above_first edge.left_first a.x old a.mid a.first) in
-    let three = spells_on old b.mid c.mid _ _ (default_way a.x edge.left_second c.x b.mid c.mid c.first) two in
-    let four = spells_on old c.mid d.mid _ _ (default_way b.x c.x d.x c.mid d.mid d.first) three in
-    subst (λ l. HasPut old (spelled_default edge.above_first edge.left_first (mode_of l 0) ++ spelled_default edge.above_second (mode_of l 0) (mode_of l 1)
-    ++ spelled_default (mode_of l 0) edge.left_second (mode_of l 2) ++ spelled_default (mode_of l 1) (mode_of l 2) (mode_of l 3)) new) d.second.0
-    (subst (λ m. HasPut old (spelled_default edge.above_first edge.left_first a.x ++ spelled_default edge.above_second a.x b.x
-    ++ spelled_default a.x edge.left_second c.x ++ spelled_default b.x c.x d.x) m) d.second.1 four)
+    let one = spells_same c.mid d.mid _ (default_way b.x c.x d.x c.mid d.mid d.first) in
+    let two = spells_on b.mid c.mid d.mid _ _ one (default_way a.x edge.left_second c.x b.mid c.mid c.first) in
+    let three = spells_on a.mid b.mid d.mid _ _ two (default_way edge.above_second a.x b.x a.mid b.mid b.first) in
+    let four = spells_on old a.mid d.mid _ _ three (default_way edge.above_first edge.left_first a.x old a.mid a.first) in
+    subst (λ l. HasPut old (OfQuarters edge (0 ∷ 1 ∷ 2 ∷ 3 ∷ []) l) new) d.second.0
+    (subst (λ m. HasPut old (OfQuarters edge (0 ∷ 1 ∷ 2 ∷ 3 ∷ []) (a.x ∷ b.x ∷ c.x ∷ d.x ∷ [])) m) d.second.1 four)
 
 by_size_way : (size : BlockSize) (edge : EdgeModes) (luma : List IntraMode) (old new : NumberPart) → Puts (modes_by_size size edge) old luma new → HasPut old (spelled_default_luma size edge luma) new
 unfolding modes_by_size spelled_default_luma

@@ -1,7 +1,7 @@
 -- What a block of an inter frame is put as (6.4.11, 6.4.15 to 6.4.18 of the standard), as it is coded.
 use Rattle.std.specs.Prelude.{ℕ, ◌*◌, Bool, true, false, List, [], ◌++◌, Option, Some, None, drop, slice_index, slice_index_or, if◌then◌else◌}
+use Rattle.std.specs.List.{flat_map}
 use Rattle.vp9_types.specs.declared.block.BlockSize.{BlockSize}
-use Rattle.vp9_types.specs.declared.block.BlockSize.TheVariants.{B4x4, B4x8, B8x4}
 use Rattle.vp9_types.specs.declared.block.InterMode.{InterMode}
 use Rattle.vp9_types.specs.declared.block.InterMode.TheVariants.{Nearest, Near, Zero, New}
 use Rattle.vp9_types.specs.declared.block.InterpFilter.{InterpFilter}
@@ -17,6 +17,7 @@ use Rattle.frame_headers.specs.declared.header.FrameKind.{FrameKind}
 use Rattle.frame_headers.specs.declared.header.FrameKind.TheVariants as frame
 use Rattle.prob_contexts.specs.ProbLists.{InterLists}
 use Rattle.block_geometry.specs.BlockSizes.{is_below_8x8}
+use Rattle.block_geometry.specs.Quarters.{starting_quarters}
 use Rattle.block_plan.specs.Blocks.{above_of, left_of, is_inter}
 use Rattle.block_plan.specs.BlockMvs.{vector_at}
 use Rattle.block_plan.specs.declared.block.BlockAt.{BlockAt}
@@ -46,13 +47,13 @@ use Rattle.block_lists.specs.VectorLists.{spelled_new}
 unfoldable pub spelled_mode : List ℕ → ℕ → IntraMode → BoolList
 spelled_mode probs group mode = tree_bools intra_mode_tree (drop (9 * group) probs) (intra_number mode)
 
--- 4x4: one for each quarter; 4x8: one at the left and one at the right; 8x4: an upper and a lower one; else one for all
+-- those of some quarters
+abbrev pub spelled_modes : List ℕ → ℕ → List IntraMode → List ℕ → BoolList
+spelled_modes probs group luma quarters = flat_map (λ k. spelled_mode probs group (mode_of luma k)) quarters
+
+-- those of the quarters at which the parts of a block begin
 unfoldable pub spelled_luma : List ℕ → BlockSize → List IntraMode → BoolList
-spelled_luma probs B4x4 luma =
-    spelled_mode probs 0 (mode_of luma 0) ++ spelled_mode probs 0 (mode_of luma 1) ++ spelled_mode probs 0 (mode_of luma 2) ++ spelled_mode probs 0 (mode_of luma 3)
-spelled_luma probs B4x8 luma = spelled_mode probs 0 (mode_of luma 0) ++ spelled_mode probs 0 (mode_of luma 1)
-spelled_luma probs B8x4 luma = spelled_mode probs 0 (mode_of luma 0) ++ spelled_mode probs 0 (mode_of luma 2)
-spelled_luma probs size luma = spelled_mode probs (slice_index SIZE_GROUP (block_number size)) (mode_of luma 0)
+spelled_luma probs size luma = spelled_modes probs (slice_index SIZE_GROUP (block_number size)) luma (starting_quarters size)
 
 unfoldable pub spelled_intra : List ℕ → List ℕ → BlockSize → IntraPrediction → BoolList
 spelled_intra y_modes uv_modes size p = spelled_luma y_modes size p.luma ++ spelled_mode uv_modes (intra_number (last_mode p.luma)) p.chroma
@@ -97,11 +98,9 @@ inter_mode_of p k = slice_index_or p.modes k Zero
 unfoldable pub spelled_quarter_of : Sources → List ℕ → ℕ → InterPrediction → ℕ → BoolList
 spelled_quarter_of s probs context p k = spelled_quarter s probs context p.references (best_mv s p.references) (inter_mode_of p k) (row_vectors p.vectors k)
 
+-- those at which the parts of a block below 8x8 begin
 unfoldable pub spelled_quarters : Sources → List ℕ → ℕ → BlockSize → InterPrediction → BoolList
-spelled_quarters s probs context B4x8 p = spelled_quarter_of s probs context p 0 ++ spelled_quarter_of s probs context p 1
-spelled_quarters s probs context B8x4 p = spelled_quarter_of s probs context p 0 ++ spelled_quarter_of s probs context p 2
-spelled_quarters s probs context size p =
-    spelled_quarter_of s probs context p 0 ++ spelled_quarter_of s probs context p 1 ++ spelled_quarter_of s probs context p 2 ++ spelled_quarter_of s probs context p 3
+spelled_quarters s probs context size p = flat_map (spelled_quarter_of s probs context p) (starting_quarters size)
 
 -- the mode of a block of 8x8 or more isn't said in a segment that skips
 unfoldable pub spelled_block_mode : Bool → List ℕ → ℕ → InterMode → BoolList

@@ -1,7 +1,7 @@
 -- What a block of an intra frame is put as (6.4.6 to 6.4.10 of the standard), as it is coded.
 use Rattle.std.specs.Prelude.{ℕ, ◌+◌, ◌*◌, Bool, true, false, not, ◌&&◌, List, [], ◌++◌, Option, Some, None, drop, get_or, slice_index, slice_index_or, if◌then◌else◌}
+use Rattle.std.specs.List.{flat_map}
 use Rattle.vp9_types.specs.declared.block.BlockSize.{BlockSize}
-use Rattle.vp9_types.specs.declared.block.BlockSize.TheVariants.{B4x4, B4x8, B8x4}
 use Rattle.vp9_types.specs.declared.block.IntraMode.{IntraMode}
 use Rattle.vp9_types.specs.declared.block.IntraMode.TheVariants.{Dc}
 use Rattle.vp9_types.specs.declared.block.Modes.{Modes}
@@ -17,13 +17,14 @@ use Rattle.frame_headers.specs.declared.segments.MapUpdate.{MapUpdate}
 use Rattle.frame_headers.specs.declared.segments.Segmentation.{Segmentation}
 use Rattle.prob_contexts.specs.ProbLists.{ContextLists, TxLists}
 use Rattle.block_geometry.specs.BlockSizes.{is_below_8x8}
+use Rattle.block_geometry.specs.Quarters.{starting_quarters}
 use Rattle.block_plan.specs.Blocks.{above_of, left_of}
 use Rattle.block_plan.specs.declared.block.BlockAt.{BlockAt}
 use Rattle.block_plan.specs.declared.block.BlockInfo.{BlockInfo}
 use Rattle.block_plan.specs.declared.block.Prediction.{Prediction}
 use Rattle.block_plan.specs.declared.block.Prediction.TheVariants.{Intra, Inter}
 use Rattle.mode_syntax.specs.Elements.{is_selected, skip_context, skips_segment, tx_context, tx_probs, tx_tree}
-use Rattle.mode_syntax.specs.IntraModes.{edge_modes}
+use Rattle.mode_syntax.specs.IntraModes.{edge_modes, mode_above, mode_at_left}
 use Rattle.mode_syntax.specs.declared.intra_modes.EdgeModes.{EdgeModes}
 
 ---- Segment, skip, transform size ----
@@ -63,14 +64,13 @@ spelled_uv luma mode = spelled_intra_mode (get_or KF_UV_MODE (intra_number luma)
 abbrev pub mode_of : List IntraMode → ℕ → IntraMode
 mode_of luma quarter = slice_index_or luma quarter Dc
 
--- 4x4: one for each quarter; 4x8: one at the left and one at the right; 8x4: an upper and a lower one; else one for all
+-- that of the k-th quarter, by the modes above and at its left
+abbrev pub spelled_default_of : EdgeModes → List IntraMode → ℕ → BoolList
+spelled_default_of edge luma k = spelled_default (mode_above edge luma k) (mode_at_left edge luma k) (mode_of luma k)
+
+-- those of the quarters at which the parts of a block begin
 unfoldable pub spelled_default_luma : BlockSize → EdgeModes → List IntraMode → BoolList
-spelled_default_luma B4x4 edge luma =
-    spelled_default edge.above_first edge.left_first (mode_of luma 0) ++ spelled_default edge.above_second (mode_of luma 0) (mode_of luma 1)
-    ++ spelled_default (mode_of luma 0) edge.left_second (mode_of luma 2) ++ spelled_default (mode_of luma 1) (mode_of luma 2) (mode_of luma 3)
-spelled_default_luma B4x8 edge luma = spelled_default edge.above_first edge.left_first (mode_of luma 0) ++ spelled_default edge.above_second (mode_of luma 0) (mode_of luma 1)
-spelled_default_luma B8x4 edge luma = spelled_default edge.above_first edge.left_first (mode_of luma 0) ++ spelled_default (mode_of luma 0) edge.left_second (mode_of luma 2)
-spelled_default_luma _ edge luma = spelled_default edge.above_first edge.left_first (mode_of luma 0)
+spelled_default_luma size edge luma = flat_map (spelled_default_of edge luma) (starting_quarters size)
 
 -- the modes of a block that is predicted from its own frame
 abbrev pub luma_of : Prediction → List IntraMode

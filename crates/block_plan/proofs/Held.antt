@@ -7,6 +7,8 @@ use Rattle.std.proofs.Math.Nat.{mul-le-mul_right}
 use Rattle.std.proofs.lemmas.Slice.{take-put_mid_below, between-put_mid}
 use Rattle.std.proofs.lemmas.List.{drop-take, get_or-set_same, get_or-set_other, same_lists, length-map, get_or-map}
 use Rattle.std.proofs.lemmas.List.FromFn.{map-range_with_len_more, length-map-range_with_len, get_or-map-range_with_len}
+use Rattle.block_geometry.specs.TransformBlocks.{place_at}
+use Rattle.block_geometry.specs.declared.transform_blocks.TransformPlace.{TransformPlace}
 use Rattle.block_plan.specs.Code.{residue_if, held_at, residues_held}
 use Rattle.block_plan.specs.Planned.{Residue}
 
@@ -19,7 +21,7 @@ one_long a long = omega arith
 pub part_is : (values : List ℤ) (k long area : ℕ) → long ≡ area → take (k * long + long - k * long) (drop (k * long) values) ≡ take area (drop (k * area) values)
 part_is values k long area is = rw (sym is, one_long (k * long) long) refl
 
-pub held_more : (ats : List (ℕ × ℕ)) (area : ℕ) (some : List Bool) (values : List ℤ) (k : ℕ)
+pub held_more : (ats : List TransformPlace) (area : ℕ) (some : List Bool) (values : List ℤ) (k : ℕ)
     → residues_held ats area some values (k + 1) ≡ residues_held ats area some values k ++ held_at ats area some values k ∷ []
 unfolding residues_held
 held_more ats area some values k = map-range_with_len_more (held_at ats area some values) 0 k k (zero_plus k)
@@ -53,34 +55,34 @@ new_part values new k area long size =
     ap (λ n. take n (drop (k * area) (put_mid (k * area) area values new))) (sym (one_long (k * area) area))
     ∙ between-put_mid (k * area) area values new (k * area + area) long (size ∙ sym (one_long (k * area) area))
 
-pub held_next : (ats : List (ℕ × ℕ)) (area : ℕ) (some : List Bool) (values new : List ℤ) (v : Bool) (k : ℕ) → k < length some → k * area ≤ length values → length new ≡ area
-    → residues_held ats area (set some k v) (put_mid (k * area) area values new) (k + 1) ≡ residues_held ats area some values k ++ (get_or ats k (0, 0), residue_if v new) ∷ []
+pub held_next : (ats : List TransformPlace) (area : ℕ) (some : List Bool) (values new : List ℤ) (v : Bool) (k : ℕ) → k < length some → k * area ≤ length values → length new ≡ area
+    → residues_held ats area (set some k v) (put_mid (k * area) area values new) (k + 1) ≡ residues_held ats area some values k ++ (get_or ats k (place_at 0 0), residue_if v new) ∷ []
 unfolding residues_held
 held_next ats area some values new v k low long size =
     let some' = set some k v in
     let values' = put_mid (k * area) area values new in
     held_more ats area some' values' k
     ∙ (ap (λ l. l ++ held_at ats area some' values' k ∷ []) (mapped_range (held_at ats area some' values') (held_at ats area some values) 0 k
-    (λ j a b. λ i. (get_or ats j (0, 0), residue_if (get_or-set_other some k j v false (λ is. omega (arith, is, b)) i) (kept_part values new j k area (omega (arith, b)) long i))))
-    ∙ (λ i. residues_held ats area some values k ++ (get_or ats k (0, 0), residue_if (get_or-set_same some k v false low i) (new_part values new k area long size i)) ∷ []))
+    (λ j a b. λ i. (get_or ats j (place_at 0 0), residue_if (get_or-set_other some k j v false (λ is. omega (arith, is, b)) i) (kept_part values new j k area (omega (arith, b)) long i))))
+    ∙ (λ i. residues_held ats area some values k ++ (get_or ats k (place_at 0 0), residue_if (get_or-set_same some k v false low i) (new_part values new k area long size i)) ∷ []))
 
 -- of no values there is none
-pub held_none : (ats : List (ℕ × ℕ)) (area : ℕ) (some : List Bool) (values : List ℤ) → ((k : ℕ) → get_or some k false ≡ false)
+pub held_none : (ats : List TransformPlace) (area : ℕ) (some : List Bool) (values : List ℤ) → ((k : ℕ) → get_or some k false ≡ false)
     → residues_held ats area some values (length ats) ≡ map (λ at. (at, None)) ats
 unfolding residues_held
 held_none ats area some values none =
-    let none_at : ℕ × ℕ → (ℕ × ℕ) × Residue = λ at. (at, None) in
+    let none_at : TransformPlace → TransformPlace × Residue = λ at. (at, None) in
     let long = length-map-range_with_len (held_at ats area some values) 0 (length ats) in
     same_lists (map (held_at ats area some values) (range_with_len 0 (length ats))) (map none_at ats) (long ∙ sym (length-map ats none_at))
     (λ k d low. let lt : k < length ats = rw long at low in
     get_or-map-range_with_len (held_at ats area some values) 0 (length ats) k k d lt (omega arith)
-    ∙ (ap (λ (v : Bool). (get_or ats k (0, 0), residue_if v (take area (drop (k * area) values)))) (none k) ∙ sym (get_or-map none_at ats k (0, 0) d lt)))
+    ∙ (ap (λ (v : Bool). (get_or ats k (place_at 0 0), residue_if v (take area (drop (k * area) values)))) (none k) ∙ sym (get_or-map none_at ats k (place_at 0 0) d lt)))
 
-pub length_held : (ats : List (ℕ × ℕ)) (area : ℕ) (some : List Bool) (values : List ℤ) (n : ℕ) → length (residues_held ats area some values n) ≡ n
+pub length_held : (ats : List TransformPlace) (area : ℕ) (some : List Bool) (values : List ℤ) (n : ℕ) → length (residues_held ats area some values n) ≡ n
 unfolding residues_held
 length_held ats area some values n = length-map-range_with_len (held_at ats area some values) 0 n
 
 -- the k-th of them
-pub held_is : (ats : List (ℕ × ℕ)) (area : ℕ) (some : List Bool) (values : List ℤ) (n k : ℕ) (d : (ℕ × ℕ) × Residue) → k < n → get_or (residues_held ats area some values n) k d ≡ held_at ats area some values k
+pub held_is : (ats : List TransformPlace) (area : ℕ) (some : List Bool) (values : List ℤ) (n k : ℕ) (d : TransformPlace × Residue) → k < n → get_or (residues_held ats area some values n) k d ≡ held_at ats area some values k
 unfolding residues_held
 held_is ats area some values n k d low = get_or-map-range_with_len (held_at ats area some values) 0 n k k d low (omega arith)

@@ -14,6 +14,7 @@ use Rattle.block_geometry.specs.FrameShapes.{places_of}
 use Rattle.block_geometry.specs.BlockSizes.{is_below_8x8}
 use Rattle.block_geometry.specs.TransformBlocks.{transform_blocks}
 use Rattle.block_geometry.specs.declared.transform_blocks.PlaneBlock.{PlaneBlock}
+use Rattle.block_geometry.specs.declared.transform_blocks.TransformPlace.{TransformPlace}
 use Rattle.block_plan.specs.declared.block.BlockInfo.{BlockInfo}
 use Rattle.block_plan.specs.declared.block.IntraPrediction.{IntraPrediction}
 
@@ -32,8 +33,8 @@ plane_block shape b p = record {
   ss_y = is_chroma p && shape.ss_y;
 }
 
--- the places of its transform blocks, row and column in 4s from the block's corner, in order
-abbrev pub places_in : Shape → BlockInfo → Plane → List (ℕ × ℕ)
+-- the places of its transform blocks, in order
+abbrev pub places_in : Shape → BlockInfo → Plane → List TransformPlace
 places_in shape b p = transform_blocks (places_of shape) (plane_block shape b p)
 
 -- a block below 8x8 has a mode for each quarter of its luma

@@ -26,6 +26,8 @@ use Rattle.inter_places.specs.declared.axis.Place as places
 use Rattle.intra_predict.specs.declared.coded.CodedBlock.{CodedBlock}
 use Rattle.planes.specs.Pictures.{coded_area}
 use Rattle.block_geometry.specs.BlockSizes.{is_below_8x8, width_8, height_8}
+use Rattle.block_geometry.specs.TransformBlocks.{place_at}
+use Rattle.block_geometry.specs.declared.transform_blocks.TransformPlace.{TransformPlace}
 use Rattle.block_plan.specs.InPlanes.{plane_block, places_in, tx_in}
 use Rattle.block_plan.specs.Planned.{Residue, PlannedBlock}
 use Rattle.block_plan.specs.declared.block.Prediction.{Prediction}
@@ -155,10 +157,10 @@ pub columns_end : (shape : Shape) (p : Plane) (tile_from : ℕ) (b : BlockInfo) 
 columns_end shape p tile_from b a is = record { enough = is.right; inside = is.narrow }
 
 -- where a transform block starts, as the standard's width and height have it
-abbrev BothStart : Shape → BlockInfo → Plane → ℕ × ℕ → Type 0
+abbrev BothStart : Shape → BlockInfo → Plane → TransformPlace → Type 0
 BothStart shape b p at = LiesInBlock (plane_block shape b p) at × Starts shape b p at
 
-ends_before : (shape : Shape) (tile_from : ℕ) (b : BlockInfo) (modes : IntraPrediction) (p : Plane) (at : ℕ × ℕ) → LiesInBlock (plane_block shape b p) at
+ends_before : (shape : Shape) (tile_from : ℕ) (b : BlockInfo) (modes : IntraPrediction) (p : Plane) (at : TransformPlace) → LiesInBlock (plane_block shape b p) at
     → EndsBefore (side (tx_in shape b p)) (halved (is_subsampled shape p Down) (8 * (b.row + height_8 b.size))) (halved (is_subsampled shape p Across) (8 * (b.col + width_8 b.size)))
     (intra_at shape tile_from b modes p at).place
 ends_before shape tile_from b modes p at lies =
@@ -177,7 +179,7 @@ in_lengths : (shape : Shape) (p : Plane) → (coded_height shape p ≡ coded_len
 in_lengths shape p = (refl, refl)
 
 -- a transform block of an intra block is put as in the whole plane
-same_put : (shape : Shape) (tile_from : ℕ) (b : BlockInfo) (modes : IntraPrediction) (p : Plane) (a : Area) (r : (ℕ × ℕ) × Residue) (m : Map) → HoldsBlock shape p tile_from b a
+same_put : (shape : Shape) (tile_from : ℕ) (b : BlockInfo) (modes : IntraPrediction) (p : Plane) (a : Area) (r : TransformPlace × Residue) (m : Map) → HoldsBlock shape p tile_from b a
     → LiesInBlock (plane_block shape b p) r.0
     → put_residue (right_end a) (lower_end a) shape.depth (intra_at shape tile_from b modes p r.0) r.1 m ≡ put_next shape tile_from b modes p m r
 same_put shape tile_from b modes p a r m holds lies =
@@ -185,7 +187,7 @@ same_put shape tile_from b modes p a r m holds lies =
     (columns_end shape p tile_from b a holds) (rows_end shape p tile_from b a holds) (ends_before shape tile_from b modes p r.0 lies)
 
 -- and its residue is added as there
-pub same_add : (shape : Shape) (tile_from : ℕ) (b : BlockInfo) (p : Plane) (a : Area) (at : ℕ × ℕ) (residue : Residue) (m : Map) → HoldsBlock shape p tile_from b a
+pub same_add : (shape : Shape) (tile_from : ℕ) (b : BlockInfo) (p : Plane) (a : Area) (at : TransformPlace) (residue : Residue) (m : Map) → HoldsBlock shape p tile_from b a
     → LiesInBlock (plane_block shape b p) at
     → add_residue (right_end a) (lower_end a) shape.depth (plane_block shape b p) at residue m ≡ add_residue (coded_width shape p) (coded_height shape p) shape.depth (plane_block shape b p) at residue m
 same_add shape tile_from b p a at None m holds lies = refl
@@ -193,18 +195,18 @@ same_add shape tile_from b p a at (Some values) m holds lies =
     let c = plane_block shape b p in
     let high = at_eights c.ss_y b.row (height_8 b.size) in
     let wide = at_eights c.ss_x b.col (width_8 b.size) in
-    let rows = same_length (lower_end a) (coded_height shape p) _ (tx_row c at.0) (side c.tx) (rows_end shape p tile_from b a holds) (omega (arith, high, lies.rows)) in
-    let columns = same_length (right_end a) (coded_width shape p) _ (tx_column c at.1) (side c.tx) (columns_end shape p tile_from b a holds) (omega (arith, wide, lies.columns)) in
-    λ i. with_block m (tx_row c at.0) (tx_column c at.1) (rows i) (columns i) (plus_residue shape.depth (side c.tx) (samples_from m (tx_row c at.0) (tx_column c at.1)) values)
+    let rows = same_length (lower_end a) (coded_height shape p) _ (tx_row c at.row) (side c.tx) (rows_end shape p tile_from b a holds) (omega (arith, high, lies.rows)) in
+    let columns = same_length (right_end a) (coded_width shape p) _ (tx_column c at.column) (side c.tx) (columns_end shape p tile_from b a holds) (omega (arith, wide, lies.columns)) in
+    λ i. with_block m (tx_row c at.row) (tx_column c at.column) (rows i) (columns i) (plus_residue shape.depth (side c.tx) (samples_from m (tx_row c at.row) (tx_column c at.column)) values)
 
 -- it starts in the area
-row_starts : (shape : Shape) (tile_from : ℕ) (b : BlockInfo) (p : Plane) (a : Area) (at : ℕ × ℕ) → HoldsBlock shape p tile_from b a → BothStart shape b p at
-    → tx_row (plane_block shape b p) at.0 < lower_end a
+row_starts : (shape : Shape) (tile_from : ℕ) (b : BlockInfo) (p : Plane) (a : Area) (at : TransformPlace) → HoldsBlock shape p tile_from b a → BothStart shape b p at
+    → tx_row (plane_block shape b p) at.row < lower_end a
 row_starts shape tile_from b p a at holds both =
     let c = plane_block shape b p in
     let high = at_eights c.ss_y b.row (height_8 b.size) in
     let some = some_side c.tx in
-    let begins : tx_row c at.0 < coded_length shape p Down = starts_row shape p both.1.0 in
+    let begins : tx_row c at.row < coded_length shape p Down = starts_row shape p both.1.0 in
     omega (arith, begins, both.0.rows, some, high, holds.bottom)
   where
     starts_row : (shape : Shape) (p : Plane) {y : ℕ} → y < halved (is_subsampled shape p Down) (8 * mi_rows shape) → y < coded_length shape p Down
@@ -212,13 +214,13 @@ row_starts shape tile_from b p a at holds both =
     starts_row shape U h = h
     starts_row shape V h = h
 
-column_starts : (shape : Shape) (tile_from : ℕ) (b : BlockInfo) (p : Plane) (a : Area) (at : ℕ × ℕ) → HoldsBlock shape p tile_from b a → BothStart shape b p at
-    → tx_column (plane_block shape b p) at.1 < right_end a
+column_starts : (shape : Shape) (tile_from : ℕ) (b : BlockInfo) (p : Plane) (a : Area) (at : TransformPlace) → HoldsBlock shape p tile_from b a → BothStart shape b p at
+    → tx_column (plane_block shape b p) at.column < right_end a
 column_starts shape tile_from b p a at holds both =
     let c = plane_block shape b p in
     let wide = at_eights c.ss_x b.col (width_8 b.size) in
     let some = some_side c.tx in
-    let begins : tx_column c at.1 < coded_length shape p Across = starts_column shape p both.1.1 in
+    let begins : tx_column c at.column < coded_length shape p Across = starts_column shape p both.1.1 in
     omega (arith, begins, both.0.columns, some, wide, holds.right)
   where
     starts_column : (shape : Shape) (p : Plane) {x : ℕ} → x < halved (is_subsampled shape p Across) (8 * mi_cols shape) → x < coded_length shape p Across
@@ -226,8 +228,8 @@ column_starts shape tile_from b p a at holds both =
     starts_column shape U h = h
     starts_column shape V h = h
 
-lies : (shape : Shape) (tile_from : ℕ) (b : BlockInfo) (p : Plane) (a : Area) (at : ℕ × ℕ) → tile_from ≤ b.col → HoldsBlock shape p tile_from b a → BothStart shape b p at
-    → LiesIn a (place_in (coded_block tile_from (plane_block shape b p)) at.0 at.1)
+lies : (shape : Shape) (tile_from : ℕ) (b : BlockInfo) (p : Plane) (a : Area) (at : TransformPlace) → tile_from ≤ b.col → HoldsBlock shape p tile_from b a → BothStart shape b p at
+    → LiesIn a (place_in (coded_block tile_from (plane_block shape b p)) at.row at.column)
 lies shape tile_from b p a at tile holds both =
     let c = plane_block shape b p in
     let before = rises c.ss_x tile_from b.col tile in
@@ -243,8 +245,8 @@ lies shape tile_from b p a at tile holds both =
       left = λ past. omega (arith, holds.left, past);
     }
 
-begins_in : (shape : Shape) (tile_from : ℕ) (b : BlockInfo) (p : Plane) (a : Area) (at : ℕ × ℕ) → tile_from ≤ b.col → HoldsBlock shape p tile_from b a → BothStart shape b p at
-    → HasRow a (tx_row (plane_block shape b p) at.0) (tx_column (plane_block shape b p) at.1) 1
+begins_in : (shape : Shape) (tile_from : ℕ) (b : BlockInfo) (p : Plane) (a : Area) (at : TransformPlace) → tile_from ≤ b.col → HoldsBlock shape p tile_from b a → BothStart shape b p at
+    → HasRow a (tx_row (plane_block shape b p) at.row) (tx_column (plane_block shape b p) at.column) 1
 begins_in shape tile_from b p a at tile holds both =
     let c = plane_block shape b p in
     let before = rises c.ss_x tile_from b.col tile in
@@ -260,11 +262,11 @@ both_start : (shape : Shape) (b : BlockInfo) (p : Plane) → tx_number b.tx ≤ 
 both_start shape b p fits = λ k d low. (all_fit shape b p fits k d low, all_inside (places_of shape) (plane_block shape b p) k d low)
 
 pub all_lie : (shape : Shape) (tile_from : ℕ) (b : BlockInfo) (p : Plane) (a : Area) → tile_from ≤ b.col → tx_number b.tx ≤ greatest_of b.size → HoldsBlock shape p tile_from b a
-    → All (λ (at : ℕ × ℕ). LiesIn a (place_in (coded_block tile_from (plane_block shape b p)) at.0 at.1)) (places_in shape b p)
+    → All (λ (at : TransformPlace). LiesIn a (place_in (coded_block tile_from (plane_block shape b p)) at.row at.column)) (places_in shape b p)
 all_lie shape tile_from b p a tile fits holds = λ k d low. lies shape tile_from b p a _ tile holds (both_start shape b p fits k d low)
 
 pub all_start : (shape : Shape) (tile_from : ℕ) (b : BlockInfo) (p : Plane) (a : Area) → tile_from ≤ b.col → tx_number b.tx ≤ greatest_of b.size → HoldsBlock shape p tile_from b a
-    → All (λ (at : ℕ × ℕ). HasRow a (tx_row (plane_block shape b p) at.0) (tx_column (plane_block shape b p) at.1) 1) (places_in shape b p)
+    → All (λ (at : TransformPlace). HasRow a (tx_row (plane_block shape b p) at.row) (tx_column (plane_block shape b p) at.column) 1) (places_in shape b p)
 all_start shape tile_from b p a tile fits holds = λ k d low. begins_in shape tile_from b p a _ tile holds (both_start shape b p fits k d low)
 
 ---- All of them ----
@@ -275,15 +277,15 @@ fold_same f g (x ∷ xs) m same =
     ap (λ (z : Map). fold f z xs) (All-head (λ x. (m : Map) → f m x ≡ g m x) x xs same m) ∙ fold_same f g xs (g m x) (All-tail (λ x. (m : Map) → f m x ≡ g m x) x xs same)
 
 -- the residues stand at the block's transform blocks
-taken_at_places : (residue : ℕ → Residue) (ats : List (ℕ × ℕ)) (P : ℕ × ℕ → Type 0) → All P ats → All (λ (x : (ℕ × ℕ) × Residue). P x.0) (residues_at residue ats)
+taken_at_places : (residue : ℕ → Residue) (ats : List TransformPlace) (P : TransformPlace → Type 0) → All P ats → All (λ (x : TransformPlace × Residue). P x.0) (residues_at residue ats)
 taken_at_places residue ats P each = λ k d low.
     let few : k < length ats = rw (length_first residue ats (length ats)) at low in
-    subst (λ (x : (ℕ × ℕ) × Residue). P x.0) (sym (first_is residue ats (length ats) k d few)) (each k (0, 0) few)
+    subst (λ (x : TransformPlace × Residue). P x.0) (sym (first_is residue ats (length ats) k d few)) (each k (place_at 0 0) few)
 
 abbrev in_plane_of : Shape → BlockInfo → Bor IntraPrediction → Plane → TxSize → CodedBlock → IntraInPlane
 in_plane_of shape b modes p tx coded = record { plane = p; depth = shape.depth; size = b.size; tx = tx; coded = coded; modes = modes }
 
-pub put_is : (shape : Shape) (tile_from : ℕ) (b : BlockInfo) (modes : Bor IntraPrediction) (p : Plane) (a : Area) (cb : PlaneBlock) (coded : CodedBlock) (ats : List (ℕ × ℕ))
+pub put_is : (shape : Shape) (tile_from : ℕ) (b : BlockInfo) (modes : Bor IntraPrediction) (p : Plane) (a : Area) (cb : PlaneBlock) (coded : CodedBlock) (ats : List TransformPlace)
     (residue : ℕ → ℕ → Residue) (old new : Map) → tx_number b.tx ≤ greatest_of b.size → HoldsBlock shape p tile_from b a → cb ≡ plane_block shape b p → coded ≡ coded_block tile_from cb → ats ≡ places_in shape b p
     → new ≡ fold (put_more a (in_plane_of shape b modes p cb.tx coded)) old (residues_at (residue (area cb.tx)) ats)
     → new ≡ put_intra shape tile_from b modes.now p (residues_at (residue (area (tx_in shape b p))) (places_in shape b p)) old
@@ -296,7 +298,7 @@ put_is shape tile_from b modes p a cb coded ats residue old new fits holds is at
     (λ k d low. λ m. same_put shape tile_from b modes.now p a (slice_index_or (residues_at (residue (area (tx_in shape b p))) (places_in shape b p)) k d) m holds
     (taken_at_places (residue (area (tx_in shape b p))) (places_in shape b p) (LiesInBlock (plane_block shape b p)) (all_fit shape b p fits) k d low)))
 
-pub inter_is : (by : Rebuilding) (tile_from : ℕ) (b : BlockInfo) (modes : InterPrediction) (p : Plane) (a : Area) (cb : PlaneBlock) (ats : List (ℕ × ℕ))
+pub inter_is : (by : Rebuilding) (tile_from : ℕ) (b : BlockInfo) (modes : InterPrediction) (p : Plane) (a : Area) (cb : PlaneBlock) (ats : List TransformPlace)
     (residue : ℕ → ℕ → Residue) (old predicted new : Map) → tx_number b.tx ≤ greatest_of b.size → HoldsBlock by.shape p tile_from b a → cb ≡ plane_block by.shape b p → ats ≡ places_in by.shape b p
     → predicted ≡ put_prediction by b modes p old
     → new ≡ fold (add_more a by.shape.depth cb) predicted (residues_at (residue (area cb.tx)) ats)

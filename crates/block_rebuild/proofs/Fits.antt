@@ -1,10 +1,10 @@
 -- Transform blocks and parts lie in their block.
-use Rattle.std.proofs.Common.{◌≡◌, ◌<◌, ◌≤◌, ◌+◌, ◌*◌, ◌&&◌, ◌||◌, not, Bool, true, false, ℕ, List, [], ◌∷◌, refl, arith, nat_lt, nat_eq, nat_le, max, map, get_or, length}
+use Rattle.std.proofs.Common.{◌≡◌, ◌<◌, ◌≤◌, ◌+◌, ◌*◌, ◌&&◌, ◌||◌, not, Bool, true, false, ℕ, refl, arith, nat_lt, nat_eq, nat_le, max, get_or, length}
 use Rattle.std.specs.Int.{div_ceil}
 use Rattle.std.specs.List.{All, range_with_len}
 use Rattle.std.proofs.Math.Nat.{mul-le-mul_left}
 use Rattle.std.proofs.lemmas.Bool.{and_parts, eqb-true, le-leb}
-use Rattle.std.proofs.lemmas.List.Elements.{All-nil, All-append, All-map, All-filter, All-head, All-tail}
+use Rattle.std.proofs.lemmas.List.Elements.{All-map, All-filter}
 use Rattle.std.proofs.lemmas.List.FromFn.{get_or-range_with_len, length-range_with_len}
 use Rattle.vp9_types.specs.Shapes.{halved, is_chroma}
 use Rattle.vp9_types.specs.Sizes.{side}
@@ -19,9 +19,11 @@ use Rattle.vp9_tables.specs.BlockTables.{width_of, height_of, greatest_of, uv_nu
 use Rattle.vp9_tables.specs.Numbers.{tx_number, tx_of}
 use Rattle.block_geometry.specs.FrameShapes.{places_of}
 use Rattle.block_geometry.specs.BlockSizes.{width_8, height_8}
-use Rattle.block_geometry.specs.TransformBlocks.{plane_side, raster, multiples, starts, start_rows, start_columns, tx_step, transform_blocks}
+use Rattle.block_geometry.specs.TransformBlocks.{plane_side, multiples, starts, start_rows, start_columns, tx_step, transform_blocks}
 use Rattle.block_geometry.specs.declared.transform_blocks.FramePlaces.{FramePlaces}
 use Rattle.block_geometry.specs.declared.transform_blocks.PlaneBlock.{PlaneBlock}
+use Rattle.block_geometry.specs.declared.transform_blocks.TransformPlace.{TransformPlace}
+use Rattle.block_geometry.proofs.Rasters.{all_places}
 use Rattle.block_plan.specs.InPlanes.{plane_block, places_in, tx_in}
 use Rattle.block_plan.specs.declared.block.BlockInfo.{BlockInfo}
 
@@ -134,19 +136,9 @@ all_end step side base end all =
         rw (get_or-range_with_len 0 (div_ceil side step) k d few) (step_end step side (0 + k) all (omega (arith, few)))
 
 -- a transform block lies in its block
-pub record LiesInBlock (b : PlaneBlock) (at : ℕ × ℕ) : Type 0 where
-  pub rows : 4 * at.0 + side b.tx ≤ halved b.ss_y (8 * height_8 b.size)
-  pub columns : 4 * at.1 + side b.tx ≤ halved b.ss_x (8 * width_8 b.size)
-
-abbrev Pair : Type 0
-Pair = ℕ × ℕ
-
-all_pairs : (P Q : ℕ → Type 0) (rows columns : List ℕ) → All P rows → All Q columns → All (λ (at : Pair). P at.0 × Q at.1) (raster rows columns)
-all_pairs P Q [] columns ps qs = All-nil (λ (at : Pair). P at.0 × Q at.1)
-all_pairs P Q (y ∷ rows) columns ps qs =
-    All-append (λ (at : Pair). P at.0 × Q at.1) (map (λ x. (y, x)) columns) (raster rows columns)
-    (All-map (λ (at : Pair). P at.0 × Q at.1) (λ x. (y, x)) columns (λ k d low. (All-head P y rows ps, qs k d low)))
-    (all_pairs P Q rows columns (All-tail P y rows ps) qs)
+pub record LiesInBlock (b : PlaneBlock) (at : TransformPlace) : Type 0 where
+  pub rows : 4 * at.row + side b.tx ≤ halved b.ss_y (8 * height_8 b.size)
+  pub columns : 4 * at.column + side b.tx ≤ halved b.ss_x (8 * width_8 b.size)
 
 side_is : (tx : TxSize) → side tx ≡ 4 * tx_step tx
 side_is T4x4 = refl
@@ -158,18 +150,18 @@ in_length : (ss : Bool) (at step n m : ℕ) → at + step ≤ plane_side ss n �
 in_length true at step n m fits is = rw is (omega (arith, fits))
 in_length false at step n m fits is = rw is (omega (arith, fits))
 
-in_block : (b : PlaneBlock) (at : Pair) → (at.0 + tx_step b.tx ≤ plane_side b.ss_y (height_of b.size)) × (at.1 + tx_step b.tx ≤ plane_side b.ss_x (width_of b.size)) → LiesInBlock b at
+in_block : (b : PlaneBlock) (at : TransformPlace) → (at.row + tx_step b.tx ≤ plane_side b.ss_y (height_of b.size)) × (at.column + tx_step b.tx ≤ plane_side b.ss_x (width_of b.size)) → LiesInBlock b at
 in_block b at fits = record {
-  rows = rw (side_is b.tx) (in_length b.ss_y at.0 (tx_step b.tx) (height_of b.size) (8 * height_8 b.size) fits.0 (high_is b.size));
-  columns = rw (side_is b.tx) (in_length b.ss_x at.1 (tx_step b.tx) (width_of b.size) (8 * width_8 b.size) fits.1 (wide_is b.size));
+  rows = rw (side_is b.tx) (in_length b.ss_y at.row (tx_step b.tx) (height_of b.size) (8 * height_8 b.size) fits.0 (high_is b.size));
+  columns = rw (side_is b.tx) (in_length b.ss_x at.column (tx_step b.tx) (width_of b.size) (8 * width_8 b.size) fits.1 (wide_is b.size));
 }
 
 all_in_block : (frame : FramePlaces) (b : PlaneBlock) → fits_in b.tx b.ss_x b.ss_y b.size ≡ true → All (LiesInBlock b) (transform_blocks frame b)
 all_in_block frame b fits =
     let parts = and_parts _ _ fits in
-    let pairs = all_pairs (λ y. y + tx_step b.tx ≤ plane_side b.ss_y (height_of b.size)) (λ x. x + tx_step b.tx ≤ plane_side b.ss_x (width_of b.size))
+    let places = all_places (λ y. y + tx_step b.tx ≤ plane_side b.ss_y (height_of b.size)) (λ x. x + tx_step b.tx ≤ plane_side b.ss_x (width_of b.size))
     (start_rows frame b) (start_columns frame b) (all_end _ _ _ _ parts.0) (all_end _ _ _ _ parts.1) in
-    λ k d low. in_block b _ (pairs k d low)
+    λ k d low. in_block b _ (places k d low)
 
 allowed : (size : BlockSize) (tx : TxSize) (ss_x ss_y : Bool) → tx_number tx ≤ greatest_of size
     → (fits_in tx false false size ≡ true) × (fits_in (tx_of (uv_number size tx ss_x ss_y)) ss_x ss_y size ≡ true)

@@ -12,6 +12,8 @@ use Rattle.vp9_types.specs.declared.block.TxSize.TheVariants.{T4x4, T8x8, T16x16
 use Rattle.vp9_types.specs.declared.shape.Depth.{Depth}
 use Rattle.vp9_types.specs.declared.shape.Shape.{Shape}
 use Rattle.vp9_tables.specs.Scans.{area}
+use Rattle.block_geometry.specs.TransformBlocks.{place_at}
+use Rattle.block_geometry.specs.declared.transform_blocks.TransformPlace.{TransformPlace}
 use Rattle.block_plan.specs.Code.{IsSmall, AreSmall, planned_with, residues_held}
 use Rattle.block_plan.specs.Planned.{Residue}
 use Rattle.block_plan.specs.declared.block.BlockInfo.{BlockInfo}
@@ -30,23 +32,23 @@ use Rattle.block_rebuild.specs.declared.in_plane.IntraInPlane.{IntraInPlane}
 zero_plus : (k : ℕ) → 0 + k ≡ k
 zero_plus k = omega arith
 
-pub first_more : (residue : ℕ → Residue) (ats : List (ℕ × ℕ)) (k : ℕ)
-    → first_residues residue ats (k + 1) ≡ first_residues residue ats k ++ (get_or ats k (0, 0), residue k) ∷ []
+pub first_more : (residue : ℕ → Residue) (ats : List TransformPlace) (k : ℕ)
+    → first_residues residue ats (k + 1) ≡ first_residues residue ats k ++ (get_or ats k (place_at 0 0), residue k) ∷ []
 unfolding first_residues
-first_more residue ats k = map-range_with_len_more (λ n. (get_or ats n (0, 0), residue n)) 0 k k (zero_plus k)
+first_more residue ats k = map-range_with_len_more (λ n. (get_or ats n (place_at 0 0), residue n)) 0 k k (zero_plus k)
 
-pub length_first : (residue : ℕ → Residue) (ats : List (ℕ × ℕ)) (n : ℕ) → length (first_residues residue ats n) ≡ n
+pub length_first : (residue : ℕ → Residue) (ats : List TransformPlace) (n : ℕ) → length (first_residues residue ats n) ≡ n
 unfolding first_residues
-length_first residue ats n = length-map-range_with_len (λ k. (get_or ats k (0, 0), residue k)) 0 n
+length_first residue ats n = length-map-range_with_len (λ k. (get_or ats k (place_at 0 0), residue k)) 0 n
 
-pub first_is : (residue : ℕ → Residue) (ats : List (ℕ × ℕ)) (n k : ℕ) (d : (ℕ × ℕ) × Residue) → k < n → get_or (first_residues residue ats n) k d ≡ (get_or ats k (0, 0), residue k)
+pub first_is : (residue : ℕ → Residue) (ats : List TransformPlace) (n k : ℕ) (d : TransformPlace × Residue) → k < n → get_or (first_residues residue ats n) k d ≡ (get_or ats k (place_at 0 0), residue k)
 unfolding first_residues
-first_is residue ats n k d low = get_or-map-range_with_len (λ n. (get_or ats n (0, 0), residue n)) 0 n k k d low (zero_plus k)
+first_is residue ats n k d low = get_or-map-range_with_len (λ n. (get_or ats n (place_at 0 0), residue n)) 0 n k k d low (zero_plus k)
 
-pub small_at : (residue : ℕ → Residue) (ats : List (ℕ × ℕ)) (k : ℕ) → k < length ats → AreSmall (residues_at residue ats) → IsSmall (residue k)
+pub small_at : (residue : ℕ → Residue) (ats : List TransformPlace) (k : ℕ) → k < length ats → AreSmall (residues_at residue ats) → IsSmall (residue k)
 small_at residue ats k low small =
-    let d : (ℕ × ℕ) × Residue = ((0, 0), None) in
-    subst (λ (r : (ℕ × ℕ) × Residue). IsSmall r.1) (first_is residue ats (length ats) k d low) (small k d (rw (length_first residue ats (length ats)) low))
+    let d : TransformPlace × Residue = (place_at 0 0, None) in
+    subst (λ (r : TransformPlace × Residue). IsSmall r.1) (first_is residue ats (length ats) k d low) (small k d (rw (length_first residue ats (length ats)) low))
 
 ---- One transform block ----
 
@@ -70,14 +72,14 @@ pub residue_is : (width height : ℕ) (depth : Depth) (b : IntraBlock) (r : Resi
 residue_is width height depth b None m = refl
 residue_is width height depth b (Some values) m = refl
 
-pub put_one_more : (a a' : Area) (b : IntraInPlane) (ats : List (ℕ × ℕ)) (residue : ℕ → Residue) (k y x : ℕ) (r : Residue) (start m new : Map)
-    → get_or ats k (0, 0) ≡ (y, x) → r ≡ residue k → m ≡ fold (put_more a b) start (first_residues residue ats k)
-    → a' ≡ a → new ≡ put_more a' b m ((y, x), r)
+pub put_one_more : (a a' : Area) (b : IntraInPlane) (ats : List TransformPlace) (residue : ℕ → Residue) (k : ℕ) (place : TransformPlace) (r : Residue) (start m new : Map)
+    → get_or ats k (place_at 0 0) ≡ place → r ≡ residue k → m ≡ fold (put_more a b) start (first_residues residue ats k)
+    → a' ≡ a → new ≡ put_more a' b m (place, r)
     → new ≡ fold (put_more a b) start (first_residues residue ats (k + 1))
-put_one_more a a' b ats residue k y x r start m new at taken so same is =
+put_one_more a a' b ats residue k place r start m new at taken so same is =
     is
     ∙ ((λ i. put_more (same i) b (so i) (sym at i, taken i))
-    ∙ (sym (fold-append (put_more a b) start (first_residues residue ats k) ((get_or ats k (0, 0), residue k) ∷ []))
+    ∙ (sym (fold-append (put_more a b) start (first_residues residue ats k) ((get_or ats k (place_at 0 0), residue k) ∷ []))
     ∙ ap (fold (put_more a b) start) (sym (first_more residue ats k))))
 
 ---- A block's buffer ----

@@ -17,6 +17,7 @@ use Rattle.vp9_types.specs.declared.shape.Shape.{Shape}
 use Rattle.block_geometry.proofs.Rasters.{all_inside}
 use Rattle.block_geometry.specs.FrameShapes.{places_of}
 use Rattle.block_geometry.specs.BlockSizes.{is_below_8x8, width_8, height_8}
+use Rattle.block_geometry.specs.declared.transform_blocks.TransformPlace.{TransformPlace}
 use Rattle.block_plan.specs.InPlanes.{plane_block, places_in, tx_in}
 use Rattle.block_plan.specs.Planned.{Residue, PlannedBlock, residues_in}
 use Rattle.block_plan.specs.declared.block.BlockInfo.{BlockInfo}
@@ -104,10 +105,10 @@ residue_stays width height depth own g b (Some values) is within =
 ---- An intra block ----
 
 -- the places where its transform blocks start
-abbrev pub Starts : Shape → BlockInfo → Plane → ℕ × ℕ → Type 0
+abbrev pub Starts : Shape → BlockInfo → Plane → TransformPlace → Type 0
 Starts shape b p at =
     let c = plane_block shape b p in
-    (halved c.ss_y (8 * c.row) + 4 * at.0 < halved c.ss_y (8 * mi_rows shape)) × (halved c.ss_x (8 * c.col) + 4 * at.1 < halved c.ss_x (8 * mi_cols shape))
+    (halved c.ss_y (8 * c.row) + 4 * at.row < halved c.ss_y (8 * mi_rows shape)) × (halved c.ss_x (8 * c.col) + 4 * at.column < halved c.ss_x (8 * mi_cols shape))
 
 pub at_eights : (ss : Bool) (a b : ℕ) → halved ss (8 * (a + b)) ≡ halved ss (8 * a) + halved ss (8 * b)
 at_eights true a b = omega arith
@@ -121,7 +122,7 @@ pub rises : (ss : Bool) (a b : ℕ) → a ≤ b → halved ss (8 * a) ≤ halved
 rises true a b le = omega (arith, le)
 rises false a b le = omega (arith, le)
 
-transform_in : (shape : Shape) (b : PlannedBlock) (modes : IntraPrediction) (p : Plane) (at : ℕ × ℕ) → b.tile_from ≤ b.info.col
+transform_in : (shape : Shape) (b : PlannedBlock) (modes : IntraPrediction) (p : Plane) (at : TransformPlace) → b.tile_from ≤ b.info.col
     → LiesInBlock (plane_block shape b.info p) at → IsInside (coded_width shape p) (coded_height shape p) (intra_at shape b.tile_from b.info modes p at).place
     → IsTransformIn (coded_width shape p) (coded_height shape p) (side (tx_in shape b.info p)) (in_plane shape p (own_places b.info)) (in_plane shape p (places_around b))
     (intra_at shape b.tile_from b.info modes p at)
@@ -147,12 +148,12 @@ from_map P f [] each = All-nil (λ x. P (f x))
 from_map P f (x ∷ xs) each = All-cons (λ x. P (f x)) x xs (All-head P (f x) (map f xs) each) (from_map P f xs (All-tail P (f x) (map f xs) each))
 
 -- what holds at all transform blocks of a block holds where its residues stand
-abbrev place_of_residue : (ℕ × ℕ) × Residue → ℕ × ℕ
+abbrev place_of_residue : TransformPlace × Residue → TransformPlace
 place_of_residue r = r.0
 
-at_residues : (shape : Shape) (b : PlannedBlock) (p : Plane) (P : ℕ × ℕ → Type 0) → map place_of_residue (residues_in b p) ≡ places_in shape b.info p → All P (places_in shape b.info p)
+at_residues : (shape : Shape) (b : PlannedBlock) (p : Plane) (P : TransformPlace → Type 0) → map place_of_residue (residues_in b p) ≡ places_in shape b.info p → All P (places_in shape b.info p)
     → All (λ r. P (place_of_residue r)) (residues_in b p)
-at_residues shape b p P same each = from_map P place_of_residue (residues_in b p) (subst (λ (ats : List (ℕ × ℕ)). All P ats) (sym same) each)
+at_residues shape b p P same each = from_map P place_of_residue (residues_in b p) (subst (λ (ats : List TransformPlace). All P ats) (sym same) each)
 
 pub own_within : (shape : Shape) (b : PlannedBlock) (p : Plane) → b.tile_from ≤ b.info.col → IsWithin (in_plane shape p (own_places b.info)) (in_plane shape p (places_around b))
 own_within shape b p tile = record {
@@ -162,7 +163,7 @@ own_within shape b p tile = record {
   right = omega arith;
 }
 
-is_inside : (shape : Shape) (b : PlannedBlock) (modes : IntraPrediction) (p : Plane) (at : ℕ × ℕ) → Starts shape b.info p at
+is_inside : (shape : Shape) (b : PlannedBlock) (modes : IntraPrediction) (p : Plane) (at : TransformPlace) → Starts shape b.info p at
     → IsInside (coded_width shape p) (coded_height shape p) (intra_at shape b.tile_from b.info modes p at).place
 is_inside shape b modes Y at starts = record { high = omega (arith, starts.0); wide = omega (arith, starts.1) }
 is_inside shape b modes U at starts = record { high = omega (arith, starts.0); wide = omega (arith, starts.1) }
@@ -229,7 +230,7 @@ prediction_stays by b modes p = fold_stays _ _ (put_part by b.info modes p) (ran
         subst (λ (n : ℕ). StaysIn (in_plane by.shape p (own_places b.info)) (in_plane by.shape p (places_around b)) (λ m. put_part by b.info modes p m n))
         (sym (get_or-range_with_len 0 (parts_of by.shape b.info.size p) k d few)) (part_stays by b modes p (0 + k) (omega (arith, few)))
 
-add_stays : (width height : ℕ) (shape : Shape) (b : PlannedBlock) (p : Plane) (at : ℕ × ℕ) (residue : Residue) → b.tile_from ≤ b.info.col → LiesInBlock (plane_block shape b.info p) at
+add_stays : (width height : ℕ) (shape : Shape) (b : PlannedBlock) (p : Plane) (at : TransformPlace) (residue : Residue) → b.tile_from ≤ b.info.col → LiesInBlock (plane_block shape b.info p) at
     → StaysIn (in_plane shape p (own_places b.info)) (in_plane shape p (places_around b)) (add_residue width height shape.depth (plane_block shape b.info p) at residue)
 add_stays width height shape b p at None tile lies = does_nothing _ _
 add_stays width height shape b p at (Some values) tile lies =
@@ -237,11 +238,11 @@ add_stays width height shape b p at (Some values) tile lies =
     let high = at_eights c.ss_y b.info.row (height_8 b.info.size) in
     let wide = at_eights c.ss_x b.info.col (width_8 b.info.size) in
     let begin = rises c.ss_x b.tile_from b.info.col tile in
-    block_stays _ _ (tx_row c at.0) (tx_column c at.1) (min (side c.tx) (height - tx_row c at.0)) (min (side c.tx) (width - tx_column c at.1))
-    (λ m. plus_residue shape.depth (side c.tx) (samples_from m (tx_row c at.0) (tx_column c at.1)) values)
+    block_stays _ _ (tx_row c at.row) (tx_column c at.column) (min (side c.tx) (height - tx_row c at.row)) (min (side c.tx) (width - tx_column c at.column))
+    (λ m. plus_residue shape.depth (side c.tx) (samples_from m (tx_row c at.row) (tx_column c at.column)) values)
     (omega arith) (omega (arith, high, lies.rows)) (omega arith) (omega (arith, wide, lies.columns))
     (λ m n same i j low near. ap (λ (z : ℕ). with_residue (greatest shape.depth) z (slice_index_or values (i * side c.tx + j) (pos 0)))
-    (same (tx_row c at.0 + i) (tx_column c at.1 + j) (record {
+    (same (tx_row c at.row + i) (tx_column c at.column + j) (record {
       below = omega arith;
       above = omega (arith, low, high, lies.rows);
       behind = omega (arith, begin);

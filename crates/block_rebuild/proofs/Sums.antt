@@ -12,6 +12,8 @@ use Rattle.vp9_types.specs.declared.block.TxSize.{TxSize}
 use Rattle.vp9_types.specs.declared.shape.Depth.{Depth}
 use Rattle.vp9_tables.specs.Scans.{area}
 use Rattle.block_geometry.specs.declared.transform_blocks.PlaneBlock.{PlaneBlock}
+use Rattle.block_geometry.specs.TransformBlocks.{place_at}
+use Rattle.block_geometry.specs.declared.transform_blocks.TransformPlace.{TransformPlace}
 use Rattle.block_plan.specs.Planned.{Residue}
 use Rattle.intra_predict.specs.Residue.{IsResidue, with_residue}
 use Rattle.intra_predict.specs.Steps.{plus_residue, with_square}
@@ -107,19 +109,19 @@ line_added m row column n most residue old new is each = with_block_same m row c
 
 ---- Transform blocks ----
 
-pub added_small : (width height : ℕ) (depth : Depth) (b : PlaneBlock) (at : ℕ × ℕ) (residue : Residue) (m : Map) → IsAtMost (greatest depth) m
+pub added_small : (width height : ℕ) (depth : Depth) (b : PlaneBlock) (at : TransformPlace) (residue : Residue) (m : Map) → IsAtMost (greatest depth) m
     → IsAtMost (greatest depth) (add_residue width height depth b at residue m)
 added_small width height depth b at None m small = small
 added_small width height depth b at (Some values) m small =
-    square_small (greatest depth) width height m _ _ (side b.tx) (plus_residue depth (side b.tx) (samples_from m (tx_row b at.0) (tx_column b at.1)) values) small
-    (residue_small depth (side b.tx) (samples_from m (tx_row b at.0) (tx_column b at.1)) values)
+    square_small (greatest depth) width height m _ _ (side b.tx) (plus_residue depth (side b.tx) (samples_from m (tx_row b at.row) (tx_column b at.column)) values) small
+    (residue_small depth (side b.tx) (samples_from m (tx_row b at.row) (tx_column b at.column)) values)
 
-pub add_one_more : (a a' : Area) (depth : Depth) (b : PlaneBlock) (ats : List (ℕ × ℕ)) (residue : ℕ → Residue) (k : ℕ) (at : ℕ × ℕ) (r : Residue) (start m new : Map)
-    → get_or ats k (0, 0) ≡ at → r ≡ residue k → m ≡ fold (add_more a depth b) start (first_residues residue ats k)
+pub add_one_more : (a a' : Area) (depth : Depth) (b : PlaneBlock) (ats : List TransformPlace) (residue : ℕ → Residue) (k : ℕ) (at : TransformPlace) (r : Residue) (start m new : Map)
+    → get_or ats k (place_at 0 0) ≡ at → r ≡ residue k → m ≡ fold (add_more a depth b) start (first_residues residue ats k)
     → a' ≡ a → new ≡ add_more a' depth b m (at, r)
     → new ≡ fold (add_more a depth b) start (first_residues residue ats (k + 1))
 add_one_more a a' depth b ats residue k at r start m new here taken so same is =
     is
     ∙ ((λ i. add_more (same i) depth b (so i) (sym here i, taken i))
-    ∙ (sym (fold-append (add_more a depth b) start (first_residues residue ats k) ((get_or ats k (0, 0), residue k) ∷ []))
+    ∙ (sym (fold-append (add_more a depth b) start (first_residues residue ats k) ((get_or ats k (place_at 0 0), residue k) ∷ []))
     ∙ ap (fold (add_more a depth b) start) (sym (first_more residue ats k))))

@@ -28,6 +28,7 @@ use Rattle.vp9_types.specs.declared.block.ReferenceFrame.{ReferenceFrame}
 use Rattle.vp9_types.specs.declared.block.ReferenceFrame.TheVariants.{Last, Golden, Altref}
 use Rattle.vp9_types.specs.declared.shape.Depth.{Depth}
 use Rattle.block_geometry.specs.declared.transform_blocks.PlaneBlock.{PlaneBlock}
+use Rattle.block_geometry.specs.declared.transform_blocks.TransformPlace.{TransformPlace}
 use Rattle.block_rebuild.specs.RebuiltBlocks.{put_residue}
 use Rattle.block_rebuild.specs.InterBlocks.{ReferencePicture, Rebuilding, add_residue, no_picture, part_of}
 use Rattle.block_rebuild.specs.declared.references.ReferencePicture as code_picture
@@ -70,15 +71,15 @@ pub record HasAreasOf {X : Type 0} (f g : FramePlanes X) : Type 0 where
   pub v : g.v.area ≡ f.v.area
 
 -- the transform block at a row and column of an intra block in a plane
-abbrev pub block_at : IntraInPlane → ℕ × ℕ → IntraBlock
-block_at b at = record { place = place_in b.coded at.0 at.1; size = b.tx; mode = mode_at b.modes.now b.size b.plane at.0 at.1 }
+abbrev pub block_at : IntraInPlane → TransformPlace → IntraBlock
+block_at b at = record { place = place_in b.coded at.row at.column; size = b.tx; mode = mode_at b.modes.now b.size b.plane at.row at.column }
 
 -- one more is put into an area
-abbrev pub put_more : Area → IntraInPlane → Map → (ℕ × ℕ) × Residue → Map
+abbrev pub put_more : Area → IntraInPlane → Map → TransformPlace × Residue → Map
 put_more a b m r = put_residue (right_end a) (lower_end a) b.depth (block_at b r.0) r.1 m
 
 -- the residue of one more is added in an area
-abbrev pub add_more : Area → Depth → PlaneBlock → Map → (ℕ × ℕ) × Residue → Map
+abbrev pub add_more : Area → Depth → PlaneBlock → Map → TransformPlace × Residue → Map
 add_more a depth b m r = add_residue (right_end a) (lower_end a) depth b r.0 r.1 m
 
 ---- Pictures that blocks refer to ----

@@ -11,6 +11,7 @@ use Rattle.vp9_types.specs.declared.shape.Depth.TheVariants.{Eight}
 use Rattle.vp9_types.specs.declared.shape.Plane.{Plane}
 use Rattle.vp9_types.specs.declared.shape.Shape.{Shape}
 use Rattle.block_geometry.specs.declared.transform_blocks.PlaneBlock.{PlaneBlock}
+use Rattle.block_geometry.specs.declared.transform_blocks.TransformPlace.{TransformPlace}
 use Rattle.block_plan.specs.InPlanes.{plane_block}
 use Rattle.block_plan.specs.Planned.{Residue, Residues}
 use Rattle.block_plan.specs.declared.block.BlockInfo.{BlockInfo}
@@ -85,14 +86,14 @@ abbrev pub samples_from : Map → ℕ → ℕ → Map
 samples_from m row column = λ i j. m (row + i) (column + j)
 
 -- the residue of a transform block added to what stands there, in a plane of a width and height
-abbrev pub add_residue : ℕ → ℕ → Depth → PlaneBlock → ℕ × ℕ → Residue → Map → Map
+abbrev pub add_residue : ℕ → ℕ → Depth → PlaneBlock → TransformPlace → Residue → Map → Map
 add_residue width height depth b at None m = m
 add_residue width height depth b at (Some values) m =
-    with_square width height m (tx_row b at.0) (tx_column b at.1) (side b.tx)
-    (plus_residue depth (side b.tx) (samples_from m (tx_row b at.0) (tx_column b at.1)) values)
+    with_square width height m (tx_row b at.row) (tx_column b at.column) (side b.tx)
+    (plus_residue depth (side b.tx) (samples_from m (tx_row b at.row) (tx_column b at.column)) values)
 
 -- the next transform block's
-abbrev pub add_next : Shape → BlockInfo → Plane → Map → (ℕ × ℕ) × Residue → Map
+abbrev pub add_next : Shape → BlockInfo → Plane → Map → TransformPlace × Residue → Map
 add_next shape b p m r = add_residue (coded_width shape p) (coded_height shape p) shape.depth (plane_block shape b p) r.0 r.1 m
 
 unfoldable pub put_inter : Rebuilding → BlockInfo → InterPrediction → Plane → Residues → Map → Map

@@ -5,6 +5,7 @@ use Rattle.vp9_types.specs.Maps.{Map, FrameMap}
 use Rattle.vp9_types.specs.declared.shape.Plane.{Plane}
 use Rattle.vp9_types.specs.declared.shape.Shape.{Shape}
 use Rattle.block_geometry.specs.BlockSizes.{width_8, height_8}
+use Rattle.block_geometry.specs.declared.transform_blocks.TransformPlace.{TransformPlace}
 use Rattle.block_plan.specs.InPlanes.{places_in}
 use Rattle.block_plan.specs.Planned.{PlannedBlock, Residue, residues_in}
 use Rattle.block_plan.specs.declared.block.BlockInfo.{BlockInfo}
@@ -38,7 +39,7 @@ pub record FrameStaysIn (shape : Shape) (own around : Region) (f : FrameMap → 
 pub record IsRead (shape : Shape) (b : PlannedBlock) : Type 0 where
   pub placed : IsPlaced shape b.tile_from b.info
   pub row : b.info.row % 8 + height_8 b.info.size ≤ 8
-  pub places : (p : Plane) → map (λ (r : (ℕ × ℕ) × Residue). r.0) (residues_in b p) ≡ places_in shape b.info p
+  pub places : (p : Plane) → map (λ (r : TransformPlace × Residue). r.0) (residues_in b p) ≡ places_in shape b.info p
 
 -- the places that a block covers, and those with what its tile has left of it
 abbrev pub own_places : BlockInfo → Region

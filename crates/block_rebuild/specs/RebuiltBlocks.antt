@@ -10,6 +10,7 @@ use Rattle.vp9_types.specs.declared.shape.Plane.TheVariants.{Y, U, V}
 use Rattle.vp9_types.specs.declared.shape.Shape.{Shape}
 use Rattle.block_geometry.specs.BlockSizes.{width_8}
 use Rattle.block_geometry.specs.declared.transform_blocks.PlaneBlock.{PlaneBlock}
+use Rattle.block_geometry.specs.declared.transform_blocks.TransformPlace.{TransformPlace}
 use Rattle.block_plan.specs.InPlanes.{plane_block, tx_in, mode_at}
 use Rattle.block_plan.specs.Planned.{Residue, Residues, PlannedBlock}
 use Rattle.block_plan.specs.declared.block.BlockInfo.{BlockInfo}
@@ -33,12 +34,12 @@ coded_block tile_from b = record {
   ss_y = b.ss_y;
 }
 
--- the transform block at a row and column, in 4s
-abbrev pub intra_at : Shape → ℕ → BlockInfo → IntraPrediction → Plane → ℕ × ℕ → IntraBlock
+-- the transform block at a place
+abbrev pub intra_at : Shape → ℕ → BlockInfo → IntraPrediction → Plane → TransformPlace → IntraBlock
 intra_at shape tile_from b modes p at = record {
-  place = place_in (coded_block tile_from (plane_block shape b p)) at.0 at.1;
+  place = place_in (coded_block tile_from (plane_block shape b p)) at.row at.column;
   size = tx_in shape b p;
-  mode = mode_at modes b.size p at.0 at.1;
+  mode = mode_at modes b.size p at.row at.column;
 }
 
 -- predicted alone, or with its residue, in a plane of a width and height
@@ -46,7 +47,7 @@ abbrev pub put_residue : ℕ → ℕ → Depth → IntraBlock → Residue → Ma
 put_residue width height depth b None m = with_predicted width height depth b m
 put_residue width height depth b (Some values) m = with_rebuilt width height depth b values m
 
-abbrev pub put_next : Shape → ℕ → BlockInfo → IntraPrediction → Plane → Map → (ℕ × ℕ) × Residue → Map
+abbrev pub put_next : Shape → ℕ → BlockInfo → IntraPrediction → Plane → Map → TransformPlace × Residue → Map
 put_next shape tile_from b modes p m r =
     put_residue (coded_width shape p) (coded_height shape p) shape.depth (intra_at shape tile_from b modes p r.0) r.1 m
 

@@ -7,6 +7,8 @@ use Rattle.vp9_types.specs.declared.shape.Plane.{Plane}
 use Rattle.vp9_types.specs.declared.shape.Plane.TheVariants.{Y, U, V}
 use Rattle.vp9_types.specs.declared.shape.Shape.{Shape}
 use Rattle.vp9_tables.specs.Scans.{area}
+use Rattle.block_geometry.specs.TransformBlocks.{place_at}
+use Rattle.block_geometry.specs.declared.transform_blocks.TransformPlace.{TransformPlace}
 use Rattle.block_plan.specs.InPlanes.{places_in, tx_in}
 use Rattle.block_plan.specs.Planned.{Residue, Residues, PlannedBlock}
 use Rattle.block_plan.specs.Code.{residue_if}
@@ -15,11 +17,11 @@ use Rattle.block_plan.specs.declared.residues.BlockResidues.{BlockResidues}
 use Rattle.block_plan.specs.declared.residues.PlaneResidues.{PlaneResidues}
 
 -- the first n of some residues, each with the place of its transform block
-unfoldable pub first_residues : (ℕ → Residue) → List (ℕ × ℕ) → ℕ → Residues
-first_residues residue places n = map (λ k. (get_or places k (0, 0), residue k)) (range_with_len 0 n)
+unfoldable pub first_residues : (ℕ → Residue) → List TransformPlace → ℕ → Residues
+first_residues residue places n = map (λ k. (get_or places k (place_at 0 0), residue k)) (range_with_len 0 n)
 
 -- one for each of these places
-abbrev pub residues_at : (ℕ → Residue) → List (ℕ × ℕ) → Residues
+abbrev pub residues_at : (ℕ → Residue) → List TransformPlace → Residues
 residues_at residue places = first_residues residue places (length places)
 
 -- those of a block in a plane

@@ -9,7 +9,6 @@ ghost use Rattle.vp9_tables.specs.Scans.{area};
 ghost use Rattle.frame_headers.specs.FrameSizes.{HasFrameSize};
 ghost use Rattle.block_geometry.specs.TransformBlocks.{grid_blocks, tx_step};
 ghost use Rattle.block_geometry.specs.Code.{IsSmallGrid};
-ghost use Rattle.block_geometry.specs.FrameShapes.{places_of};
 ghost use Rattle.block_plan.specs.Code.{IsSmall, AreSmall};
 ghost use Rattle.block_plan.specs.InPlanes.{places_in, tx_in};
 ghost use Rattle.intra_predict.specs.Code.{LiesIn};
@@ -20,7 +19,9 @@ ghost use Rattle.block_rebuild.specs.Code.{IsPlaced, IsPartOf, block_at, put_mor
 ghost use Rattle.block_rebuild.specs.Residues.{IsWhole, residues_at, residues_of};
 
 use crate::residues::TransformResidues;
-use block_geometry::{FramePlaces, PlaneBlock, TransformGrid, transform_grid, width_8};
+use block_geometry::{
+    FramePlaces, PlaneBlock, TransformGrid, TransformPlace, transform_grid, width_8,
+};
 use block_plan::{BlockInfo, IntraPrediction, mode_at, plane_block};
 use intra_predict::{CodedBlock, IntraBlock, Scratch, place_of, put_transform_block};
 use planes::SamplePlane;
@@ -60,20 +61,19 @@ fn coded_block(tile_from: u32, block: &PlaneBlock) -> CodedBlock
     }
 }
 
-/// The transform block at a row and column, in 4s.
-fn block_at(b: &IntraInPlane<'_>, at: (usize, usize)) -> IntraBlock
+/// The transform block at a place.
+fn block_at(b: &IntraInPlane<'_>, at: TransformPlace) -> IntraBlock
     requires low { b.now.coded.row ≤ 8192 }
     requires near { b.now.coded.column + b.now.coded.columns ≤ 65536 }
     requires tile { b.now.coded.tile_column ≤ b.now.coded.column }
-    requires y { at.0 < 16 }
-    requires x { at.1 < 16 }
+    requires down { at.row < 16 }
+    requires across { at.column < 16 }
     ensures { result ≡ block_at b.now at }
 {
-    let (y, x) = at;
     IntraBlock {
-        place: place_of(&b.coded, y, x),
+        place: place_of(&b.coded, at.row, at.column),
         size: b.tx,
-        mode: mode_at(b.modes, b.size, b.plane, y, x),
+        mode: mode_at(b.modes, b.size, b.plane, at.row, at.column),
     }
 }
 
@@ -113,7 +113,7 @@ fn put_residues<P: Sample, R: TransformResidues>(
     requires low { b.now.coded.row ≤ 8192 }
     requires near { b.now.coded.column + b.now.coded.columns ≤ 65536 }
     requires tile { b.now.coded.tile_column ≤ b.now.coded.column }
-    requires inside { All (λ at. LiesIn samples.old.area (place_in b.now.coded at.0 at.1)) (grid_blocks grid.now) }
+    requires inside { All (λ at. LiesIn samples.old.area (place_in b.now.coded at.row at.column)) (grid_blocks grid.now) }
     requires range { IsAtMost (greatest b.now.depth) (plane_map samples.old) }
     requires held { (k : ℕ) → k < length (grid_blocks grid.now) → R.holds residues.now b.now.plane (area b.now.tx) k }
     requires small { AreSmall (residues_at (R.residue residues.now b.now.plane (area b.now.tx)) (grid_blocks grid.now)) }

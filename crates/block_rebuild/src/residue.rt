@@ -6,7 +6,7 @@ ghost use Rattle.std.specs.Option.{option_copied};
 ghost use Rattle.vp9_types.specs.Maps.{IsAtMost, with_block};
 ghost use Rattle.vp9_types.specs.Sizes.{clip, greatest, side};
 ghost use Rattle.vp9_tables.specs.Scans.{area};
-ghost use Rattle.block_geometry.specs.TransformBlocks.{grid_blocks, tx_step};
+ghost use Rattle.block_geometry.specs.TransformBlocks.{grid_blocks, place_at, tx_step};
 ghost use Rattle.block_geometry.specs.Code.{IsSmallGrid};
 ghost use Rattle.block_plan.specs.Code.{IsSmall, AreSmall};
 ghost use Rattle.intra_predict.specs.Residue.{IsResidue, with_residue};
@@ -17,7 +17,7 @@ ghost use Rattle.block_rebuild.specs.Code.{add_more};
 ghost use Rattle.block_rebuild.specs.Residues.{IsWhole, residues_at};
 
 use crate::residues::TransformResidues;
-use block_geometry::{PlaneBlock, TransformGrid};
+use block_geometry::{PlaneBlock, TransformGrid, TransformPlace};
 use intra_predict::side_of;
 use planes::SamplePlane;
 use vp9_tables::area_of;
@@ -207,19 +207,19 @@ fn add_square<P: Sample>(
     }
 }
 
-/// The first row and column of the transform block at a row and column in 4s.
-fn first_sample(block: &PlaneBlock, at: (usize, usize)) -> (usize, usize)
+/// The row and column of the first sample of the transform block at a place.
+fn first_sample(block: &PlaneBlock, at: TransformPlace) -> (usize, usize)
     requires low { block.now.row ≤ 8192 }
     requires near { block.now.col ≤ 8192 }
-    requires y { at.0 < 16 }
-    requires x { at.1 < 16 }
-    ensures { result ≡ (tx_row block.now at.0, tx_column block.now at.1) }
+    requires down { at.row < 16 }
+    requires across { at.column < 16 }
+    ensures { result ≡ (tx_row block.now at.row, tx_column block.now at.column) }
 {
     let row = 8 * block.row as usize;
     let column = 8 * block.col as usize;
     (
-        halved(block.ss_y, row) + 4 * at.0,
-        halved(block.ss_x, column) + 4 * at.1,
+        halved(block.ss_y, row) + 4 * at.row,
+        halved(block.ss_x, column) + 4 * at.column,
     )
 }
 
@@ -238,11 +238,11 @@ fn add_any<P: Sample>(
     requires small_grid { IsSmallGrid grid.now }
     requires count { k < grid.now.rows * grid.now.columns }
     requires fits { greatest depth ≤ P.greatest }
-    requires inside { HasRow samples.old.area (tx_row block.now (get_or (grid_blocks grid.now) k (0, 0)).0) (tx_column block.now (get_or (grid_blocks grid.now) k (0, 0)).1) 1 }
+    requires inside { HasRow samples.old.area (tx_row block.now (get_or (grid_blocks grid.now) k (place_at 0 0)).row) (tx_column block.now (get_or (grid_blocks grid.now) k (place_at 0 0)).column) 1 }
     requires range { IsAtMost (greatest depth) (plane_map samples.old) }
     requires whole { IsWhole (area block.now.tx) (option_copied residue) }
     requires small { IsSmall (option_copied residue) }
-    ensures map { plane_map samples.new ≡ add_residue (right_end samples.old.area) (lower_end samples.old.area) depth block.now (get_or (grid_blocks grid.now) k (0, 0)) (option_copied residue.entry) (plane_map samples.old) }
+    ensures map { plane_map samples.new ≡ add_residue (right_end samples.old.area) (lower_end samples.old.area) depth block.now (get_or (grid_blocks grid.now) k (place_at 0 0)) (option_copied residue.entry) (plane_map samples.old) }
     ensures area { samples.new.area ≡ samples.old.area }
     ensures range { IsAtMost (greatest depth) (plane_map samples.new) }
 {
@@ -266,7 +266,7 @@ pub(crate) fn add_residues<P: Sample, R: TransformResidues>(
     requires step { grid.now.step ≡ tx_step block.now.tx }
     requires low { block.now.row ≤ 8192 }
     requires near { block.now.col ≤ 8192 }
-    requires inside { All (λ at. HasRow samples.old.area (tx_row block.now at.0) (tx_column block.now at.1) 1) (grid_blocks grid.now) }
+    requires inside { All (λ at. HasRow samples.old.area (tx_row block.now at.row) (tx_column block.now at.column) 1) (grid_blocks grid.now) }
     requires range { IsAtMost (greatest depth) (plane_map samples.old) }
     requires held { (k : ℕ) → k < length (grid_blocks grid.now) → R.holds residues.now plane (area block.now.tx) k }
     requires small { AreSmall (residues_at (R.residue residues.now plane (area block.now.tx)) (grid_blocks grid.now)) }

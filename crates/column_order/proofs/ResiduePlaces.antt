@@ -4,6 +4,7 @@ use Rattle.std.specs.Prelude.{None}
 use Rattle.std.proofs.lemmas.List.{map-append}
 use Rattle.vp9_types.specs.declared.shape.Plane.{Plane}
 use Rattle.vp9_types.specs.declared.shape.Plane.TheVariants.{Y, U, V}
+use Rattle.block_geometry.specs.declared.transform_blocks.TransformPlace.{TransformPlace}
 use Rattle.frame_headers.specs.HeaderState.{shape_of}
 use Rattle.frame_headers.specs.declared.header.Header.{Header}
 use Rattle.prob_contexts.specs.ProbLists.{ContextLists}
@@ -18,14 +19,14 @@ use Rattle.residue_syntax.specs.declared.in_plane.BlockInPlane.{BlockInPlane}
 use Rattle.residue_syntax.specs.declared.sides.TileSides.{TileSides}
 use Rattle.column_order.proofs.TxFits.{any_bind, either}
 
-abbrev places : Residues → List (ℕ × ℕ)
-places residues = map (λ (r : (ℕ × ℕ) × Residue). r.0) residues
+abbrev places : Residues → List TransformPlace
+places residues = map (λ (r : TransformPlace × Residue). r.0) residues
 
-next_place : (contexts : ContextLists) (b : BlockInPlane) (at : ℕ × ℕ) (s : ReadPlane) → Yields (read_next contexts b at s) (λ t. places t.residues ≡ places s.residues ++ at ∷ [])
+next_place : (contexts : ContextLists) (b : BlockInPlane) (at : TransformPlace) (s : ReadPlane) → Yields (read_next contexts b at s) (λ t. places t.residues ≡ places s.residues ++ at ∷ [])
 unfolding read_next settle
-next_place contexts b at s = any_bind (read_residue contexts b at.0 at.1 s.sides) _ _ (λ r. map-append (λ (r : (ℕ × ℕ) × Residue). r.0) s.residues ((at, r.0) ∷ []))
+next_place contexts b at s = any_bind (read_residue contexts b at.row at.column s.sides) _ _ (λ r. map-append (λ (r : TransformPlace × Residue). r.0) s.residues ((at, r.0) ∷ []))
 
-through_places : (contexts : ContextLists) (b : BlockInPlane) (ats : List (ℕ × ℕ)) (s : ReadPlane)
+through_places : (contexts : ContextLists) (b : BlockInPlane) (ats : List TransformPlace) (s : ReadPlane)
     → Yields (through (read_next contexts b) ats s) (λ t. places t.residues ≡ places s.residues ++ ats)
 unfolding through settle
 through_places contexts b [] s = sym (append-nil (places s.residues))
@@ -34,11 +35,11 @@ through_places contexts b (at ∷ ats) s =
     (λ t is. yields_map (through (read_next contexts b) ats t) _ _ (through_places contexts b ats t)
     (λ r more. more ∙ (ap (λ xs. xs ++ ats) is ∙ append_assoc (places s.residues) (at ∷ []) ats)))
 
-skipped_places : (ats : List (ℕ × ℕ)) → places (map (λ at. (at, None)) ats) ≡ ats
+skipped_places : (ats : List TransformPlace) → places (map (λ at. (at, None)) ats) ≡ ats
 skipped_places [] = refl
 skipped_places (at ∷ ats) = ap (λ xs. at ∷ xs) (skipped_places ats)
 
-in_plane_places : (contexts : ContextLists) (skip : Bool) (b : BlockInPlane) (ats : List (ℕ × ℕ)) (s : Sides) → Yields (read_in_plane contexts skip b ats s) (λ t. places t.residues ≡ ats)
+in_plane_places : (contexts : ContextLists) (skip : Bool) (b : BlockInPlane) (ats : List TransformPlace) (s : Sides) → Yields (read_in_plane contexts skip b ats s) (λ t. places t.residues ≡ ats)
 unfolding read_in_plane read_skipped settle
 in_plane_places contexts skip b ats s =
     either skip _ _ (λ t. places t.residues ≡ ats) (skipped_places ats) (through_places contexts b ats (record { residues = []; sides = s }))

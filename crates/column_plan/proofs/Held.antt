@@ -12,7 +12,8 @@ use Rattle.vp9_types.specs.declared.shape.Plane.{Plane}
 use Rattle.vp9_types.specs.declared.shape.Plane.TheVariants.{Y, U, V}
 use Rattle.vp9_types.specs.declared.shape.Shape.{Shape}
 use Rattle.vp9_tables.specs.Scans.{area}
-use Rattle.block_geometry.specs.TransformBlocks.{tx_step}
+use Rattle.block_geometry.specs.TransformBlocks.{tx_step, place_at}
+use Rattle.block_geometry.specs.declared.transform_blocks.TransformPlace.{TransformPlace}
 use Rattle.block_plan.specs.Code.{held_at, held_in, planned_with, residue_if, residues_held}
 use Rattle.block_plan.specs.InPlanes.{places_in, tx_in}
 use Rattle.block_plan.specs.Planned.{PlannedBlock, Residue}
@@ -83,10 +84,10 @@ one_stands area some values k more room =
     piece_stands area (get_or some k false) (take area (drop (k * area) values)) more (length-take-le area (drop (k * area) values) left)
 
 -- the k-th of all places, from the a-th on
-abbrev AreFrom : List (ℕ × ℕ) → ℕ → List (ℕ × ℕ) → Type 0
-AreFrom all a places = (m : ℕ) → m < length places → get_or places m (0, 0) ≡ get_or all (a + m) (0, 0)
+abbrev AreFrom : List TransformPlace → ℕ → List TransformPlace → Type 0
+AreFrom all a places = (m : ℕ) → m < length places → get_or places m (place_at 0 0) ≡ get_or all (a + m) (place_at 0 0)
 
-all_stand : (all places : List (ℕ × ℕ)) (a area : ℕ) (some : List Bool) (values : List ℤ) (behind : List (List ℤ)) → AreFrom all a places → 0 < area → (a + length places) * area ≤ length values
+all_stand : (all places : List TransformPlace) (a area : ℕ) (some : List Bool) (values : List ℤ) (behind : List (List ℤ)) → AreFrom all a places → 0 < area → (a + length places) * area ≤ length values
     → residues_from places (map (piece_held area some values) (range_with_len a (length places)) ++ behind) ≡ map (held_at all area some values) (range_with_len a (length places))
 unfolding residues_from
 all_stand all [] a area some values behind from more fits = refl
@@ -101,7 +102,7 @@ pub plane_stands : (shape : Shape) (b : BlockInfo) (p : Plane) (r : PlaneResidue
     → residues_from (places_in shape b p) (plane_pieces shape b p r ++ behind) ≡ held_in shape b p r
 unfolding pieces_held residues_held
 plane_stands shape b p r behind fits =
-    all_stand (places_in shape b p) (places_in shape b p) 0 (area (tx_in shape b p)) r.some r.values behind (λ m low. let here : m ≡ 0 + m = omega arith in ap (λ k. get_or (places_in shape b p) k (0, 0)) here)
+    all_stand (places_in shape b p) (places_in shape b p) 0 (area (tx_in shape b p)) r.some r.values behind (λ m low. let here : m ≡ 0 + m = omega arith in ap (λ k. get_or (places_in shape b p) k (place_at 0 0)) here)
     (some_area (tx_in shape b p)) (let here : 0 + length (places_in shape b p) ≡ length (places_in shape b p) = omega arith in rw here fits)
 
 plane_long : (shape : Shape) (b : BlockInfo) (p : Plane) (r : PlaneResidues) → length (plane_pieces shape b p r) ≡ count_in shape b p
@@ -147,12 +148,12 @@ plane_whole shape b p r fits k d low =
     let start : 0 + k ≡ k = omega arith in
     let room = room_for k (length places) n (length r.values) here fits in
     let left : n ≤ length (drop (k * n) r.values) = rw length-drop (omega (arith, room)) in
-    subst (λ (x : (ℕ × ℕ) × Residue). IsWhole n x.1) (sym (get_or-map-range_with_len (held_at places n r.some r.values) 0 (length places) k k d here start))
+    subst (λ (x : TransformPlace × Residue). IsWhole n x.1) (sym (get_or-map-range_with_len (held_at places n r.some r.values) 0 (length places) k k d here start))
     (piece_whole n (get_or r.some k false) (take n (drop (k * n) r.values)) (length-take-le n (drop (k * n) r.values) left))
 
 ---- Blocks one behind another ----
 
-behind_none : (places : List (ℕ × ℕ)) (pieces more : List (List ℤ)) → length places ≤ length pieces → residues_from places (pieces ++ more) ≡ residues_from places pieces
+behind_none : (places : List TransformPlace) (pieces more : List (List ℤ)) → length places ≤ length pieces → residues_from places (pieces ++ more) ≡ residues_from places pieces
 unfolding residues_from
 behind_none [] pieces more few = refl
 behind_none (at ∷ places) [] more few = absurd (omega arith)

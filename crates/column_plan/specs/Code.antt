@@ -5,6 +5,7 @@ use Rattle.vp9_types.specs.declared.shape.Plane.{Plane}
 use Rattle.vp9_types.specs.declared.shape.Plane.TheVariants.{Y, U, V}
 use Rattle.vp9_types.specs.declared.shape.Shape.{Shape}
 use Rattle.vp9_tables.specs.Scans.{area}
+use Rattle.block_geometry.specs.declared.transform_blocks.TransformPlace.{TransformPlace}
 use Rattle.block_plan.specs.InPlanes.{places_in, tx_in}
 use Rattle.block_plan.specs.Planned.{PlannedBlock, Residue, Residues}
 use Rattle.block_plan.specs.declared.block.BlockInfo.{BlockInfo}
@@ -55,7 +56,7 @@ IsWhole n None = Unit {0}
 IsWhole n (Some values) = length values ≡ n
 
 abbrev pub AreWhole : ℕ → Residues → Type 0
-AreWhole n residues = All (λ (r : (ℕ × ℕ) × Residue). IsWhole n r.1) residues
+AreWhole n residues = All (λ (r : TransformPlace × Residue). IsWhole n r.1) residues
 
 -- each residue of a planned block has as many values as its transform block has samples, or none
 pub record HoldsWhole (shape : Shape) (b : PlannedBlock) : Type 0 where

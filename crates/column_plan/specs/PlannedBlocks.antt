@@ -4,6 +4,7 @@ use Rattle.std.specs.Prelude.{ℕ, ◌+◌, ℤ, List, [], ◌∷◌, length, dr
 use Rattle.vp9_types.specs.declared.shape.Plane.{Plane}
 use Rattle.vp9_types.specs.declared.shape.Plane.TheVariants.{Y, U, V}
 use Rattle.vp9_types.specs.declared.shape.Shape.{Shape}
+use Rattle.block_geometry.specs.declared.transform_blocks.TransformPlace.{TransformPlace}
 use Rattle.block_plan.specs.InPlanes.{places_in}
 use Rattle.block_plan.specs.Planned.{PlannedBlock, Residue, Residues}
 use Rattle.block_plan.specs.declared.block.BlockInfo.{BlockInfo}
@@ -14,7 +15,7 @@ residue_of_piece [] = None
 residue_of_piece (x ∷ xs) = Some (x ∷ xs)
 
 -- the residues of transform blocks at these places, from the first of these pieces on
-unfoldable pub residues_from : List (ℕ × ℕ) → List (List ℤ) → Residues
+unfoldable pub residues_from : List TransformPlace → List (List ℤ) → Residues
 residues_from [] pieces = []
 residues_from (at ∷ places) [] = []
 residues_from (at ∷ places) (piece ∷ pieces) = (at, residue_of_piece piece) ∷ residues_from places pieces

@@ -11,6 +11,7 @@ use Rattle.vp9_types.specs.declared.shape.Plane.{Plane}
 use Rattle.vp9_types.specs.declared.shape.Plane.TheVariants.{Y, U, V}
 use Rattle.vp9_types.specs.declared.shape.Shape.{Shape}
 use Rattle.block_geometry.specs.declared.transform_blocks.PlaneBlock.{PlaneBlock}
+use Rattle.block_geometry.specs.declared.transform_blocks.TransformPlace.{TransformPlace}
 use Rattle.block_plan.specs.InPlanes.{plane_block}
 use Rattle.block_plan.specs.Planned.{PlannedBlock, Residue, Residues}
 use Rattle.block_plan.specs.declared.block.BlockInfo.{BlockInfo}
@@ -54,7 +55,7 @@ unfolding put_intra
 intra_leaves shape tile_from b modes p residues m y x past =
     all_leave (put_next shape tile_from b modes p) y x (λ m r. residue_leaves (coded_width shape p) (coded_height shape p) shape.depth _ r.1 m y x past) residues m
 
-added_leaves : (width height : ℕ) (depth : Depth) (b : PlaneBlock) (at : ℕ × ℕ) (residue : Residue) (m : Map) (y x : ℕ) → width ≤ x → add_residue width height depth b at residue m y x ≡ m y x
+added_leaves : (width height : ℕ) (depth : Depth) (b : PlaneBlock) (at : TransformPlace) (residue : Residue) (m : Map) (y x : ℕ) → width ≤ x → add_residue width height depth b at residue m y x ≡ m y x
 added_leaves width height depth b at None m y x past = refl
 added_leaves width height depth b at (Some values) m y x past = cut_off m _ width _ _ _ _ y x (omega arith) past
 

@@ -4,6 +4,7 @@ use Rattle.std.specs.Prelude.{ℕ, ◌+◌, ◌*◌, ℤ, pos, List, [], ◌∷�
 use Rattle.vp9_types.specs.declared.shape.Plane.{Plane}
 use Rattle.vp9_types.specs.declared.shape.Plane.TheVariants.{Y, U, V}
 use Rattle.vp9_tables.specs.Scans.{area, scan_of}
+use Rattle.block_geometry.specs.declared.transform_blocks.TransformPlace.{TransformPlace}
 use Rattle.frame_headers.specs.HeaderState.{shape_of}
 use Rattle.frame_headers.specs.declared.header.Header.{Header}
 use Rattle.block_plan.specs.InPlanes.{places_in}
@@ -22,15 +23,15 @@ no_plane = record { counts = replicate 256 0; values = replicate 4096 (pos 0) }
 ---- A transform block ----
 
 -- the levels of the one at a row and column, by position: they stand in the first places of its scan, and the others are 0
-abbrev pub placed_levels : BlockInPlane → ℕ × ℕ → List ℤ → List ℤ
-placed_levels b at levels = placed_from 0 (scan_of b.block.tx (type_at b at.0 at.1)) levels (replicate (area b.block.tx) (pos 0))
+abbrev pub placed_levels : BlockInPlane → TransformPlace → List ℤ → List ℤ
+placed_levels b at levels = placed_from 0 (scan_of b.block.tx (type_at b at.row at.column)) levels (replicate (area b.block.tx) (pos 0))
 
 -- values with others from a place on, in place of as many
 abbrev pub with_values : List ℤ → ℕ → List ℤ → List ℤ
 with_values values from others = take from values ++ others ++ drop (from + length others) values
 
 -- with those of the k-th, which stand behind those of the ones before it
-abbrev pub with_levels : BlockInPlane → ℕ × ℕ → ℕ → List ℤ → PlaneLevels → PlaneLevels
+abbrev pub with_levels : BlockInPlane → TransformPlace → ℕ → List ℤ → PlaneLevels → PlaneLevels
 with_levels b at k levels p = record {
   counts = slice_set p.counts k (length levels);
   values = with_values p.values (k * area b.block.tx) (placed_levels b at levels);
@@ -39,7 +40,7 @@ with_levels b at k levels p = record {
 ---- A block ----
 
 -- those of the transform blocks at these places, from the k-th on, behind those before it
-unfoldable pub draw_from : BlockInPlane → List (ℕ × ℕ) → ℕ → PlaneLevels → Drawn PlaneLevels
+unfoldable pub draw_from : BlockInPlane → List TransformPlace → ℕ → PlaneLevels → Drawn PlaneLevels
 draw_from b [] k p = stay p
 draw_from b (at ∷ places) k p = draw_levels >>= λ levels. draw_from b places (k + 1) (with_levels b at k levels p)
 

@@ -7,7 +7,7 @@ ghost use Rattle.vp9_types.specs.declared.shape.Plane.{Plane};
 ghost use Rattle.vp9_types.specs.Shapes.{plane_width, plane_height};
 ghost use Rattle.frame_output.specs.Texts.{frame_text, plane_text, sample_size};
 
-use crate::rows::{rows_with_room, sample_bytes, write_rows};
+use crate::rows::{RowForm, rows_with_room, sample_bytes, write_rows};
 use md5::{Digest, Md5};
 use vp9_types::{Plane, Samples, Shape};
 
@@ -50,7 +50,11 @@ fn add_plane<S: Samples>(
     let mut y = 0;
     while y < height {
         let count = most.min(height - y);
-        write_rows(samples, plane, shape.depth, width, y, count, buffer);
+        let form = RowForm {
+            depth: shape.depth,
+            width,
+        };
+        write_rows(samples, plane, form, y, count, buffer);
         hasher.update(&buffer[..count * row_bytes]);
         y += count;
     }

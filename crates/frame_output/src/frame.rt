@@ -5,7 +5,7 @@ ghost use Rattle.vp9_types.specs.Shapes.{plane_width, plane_height};
 ghost use Rattle.edge_io.specs.Putting.{PutsAll, CountsPutFaults};
 ghost use Rattle.frame_output.specs.Texts.{frame_text, plane_text, sample_size};
 
-use crate::rows::{rows_with_room, sample_bytes, write_rows};
+use crate::rows::{RowForm, rows_with_room, sample_bytes, write_rows};
 use edge_io::{PutFault, Sink, put_all};
 use vp9_types::{Plane, Samples, Shape};
 
@@ -60,7 +60,11 @@ fn put_plane<S: Samples, K: Sink>(
     let mut y = 0;
     while y < height {
         let count = most.min(height - y);
-        write_rows(samples, plane, shape.depth, width, y, count, buffer);
+        let form = RowForm {
+            depth: shape.depth,
+            width,
+        };
+        write_rows(samples, plane, form, y, count, buffer);
         put_all(sink, &buffer[..count * row_bytes])?;
         y += count;
     }

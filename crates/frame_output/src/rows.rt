@@ -5,6 +5,13 @@ ghost use Rattle.std.specs.List.{flat_map};
 
 use vp9_types::{Depth, Plane, Sample, Samples};
 
+// How the rows of a plane are written: so many samples of each, at the bytes of this depth.
+#[derive(Clone, Copy)]
+pub(crate) struct RowForm {
+    pub depth: Depth,
+    pub width: usize,
+}
+
 pub(crate) fn sample_bytes(depth: Depth) -> usize
     ensures value { result ≡ sample_size depth }
     ensures small { result ≤ 2 }
@@ -28,25 +35,28 @@ pub(crate) fn rows_with_room(room: usize, row_bytes: usize) -> usize
 pub(crate) fn write_rows<S: Samples>(
     samples: &S,
     plane: Plane,
-    depth: Depth,
-    width: usize,
+    form: RowForm,
     from: usize,
     count: usize,
     buffer: &mut [u8],
 )
     requires near { from + count < 2 ^ 32 }
-    requires narrow { width < 2 ^ 32 }
-    requires wide { width ≤ S.width samples.now plane }
+    requires narrow { form.width < 2 ^ 32 }
+    requires wide { form.width ≤ S.width samples.now plane }
     requires held { (y : ℕ) → y < from + count → S.holds samples.now plane y }
-    requires small { depth ≡ Eight → (y x : ℕ) → y < from + count → x < width → S.map samples.now plane y x < 256 }
-    requires room { count * (sample_size depth * width) ≤ length buffer.old }
-    ensures { take (count * (sample_size depth * width)) buffer.new ≡ rows_text depth width (S.map samples.now plane) from count }
+    requires small { form.depth ≡ Eight → (y x : ℕ) → y < from + count → x < form.width → S.map samples.now plane y x < 256 }
+    requires room { count * (sample_size form.depth * form.width) ≤ length buffer.old }
+    ensures { take (count * (sample_size form.depth * form.width)) buffer.new ≡ rows_text form.depth form.width (S.map samples.now plane) from count }
 {
-    let row_bytes = sample_bytes(depth) * width;
+    let row_bytes = sample_bytes(form.depth) * form.width;
     for i in 0..count {
         let at = i * row_bytes;
         let row = samples.row(plane, (from + i) as u32);
-        write_row(depth, &row[..width], &mut buffer[at..at + row_bytes]);
+        write_row(
+            form.depth,
+            &row[..form.width],
+            &mut buffer[at..at + row_bytes],
+        );
     }
 }
 

@@ -1,5 +1,5 @@
 -- What the code keeps of lines: eight of them at a time, as lanes.
-use Rattle.std.specs.Prelude.{ℕ, ◌+◌, ◌-◌, ◌*◌, ◌<◌, ◌≤◌, ◌≡◌, Bool, false, not, ◌&&◌, if◌then◌else◌, List, [], ◌∷◌, min, nat_eq, slice_index}
+use Rattle.std.specs.Prelude.{ℕ, ◌+◌, ◌-◌, ◌*◌, ◌<◌, ◌≤◌, ◌≡◌, Bool, false, not, ◌&&◌, if◌then◌else◌, List, [], ◌∷◌, get_or, min, nat_eq, slice_index}
 use Rattle.vp9_types.specs.Maps.{Map}
 use Rattle.planes.specs.declared.area.Area.{Area}
 use Rattle.planes.specs.Planes.{lower_end, right_end, with_part}
@@ -49,6 +49,19 @@ pub record IsFar (x : Far) : Type 0 where
 -- rows, sample by sample
 abbrev pub lanes_of : Rows → Lanes
 lanes_of x = record { r0 = x.r0; r1 = x.r1; r2 = x.r2; r3 = x.r3; r4 = x.r4; r5 = x.r5; r6 = x.r6; r7 = x.r7 }
+
+-- rows, one behind another
+abbrev pub lanes_from : List (List ℕ) → Lanes
+lanes_from rows = record {
+  r0 = get_or rows 0 [];
+  r1 = get_or rows 1 [];
+  r2 = get_or rows 2 [];
+  r3 = get_or rows 3 [];
+  r4 = get_or rows 4 [];
+  r5 = get_or rows 5 [];
+  r6 = get_or rows 6 [];
+  r7 = get_or rows 7 [];
+}
 
 -- column j of four rows above an edge and four below it
 unfoldable pub near_at : Lanes → ℕ → Near

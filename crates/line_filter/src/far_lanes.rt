@@ -3,12 +3,12 @@
 ghost use Rattle.std.specs.Prelude.{◌≡◌, ℕ, ◌<◌, ◌≤◌, false};
 ghost use Rattle.line_filter.specs.Lines.{filtered_line};
 ghost use Rattle.line_filter.specs.declared.edge.FilterWidth.TheVariants.{Sixteen};
-ghost use Rattle.line_filter.specs.Code.{IsNear, IsFar, wide_line_of, AreFlat, AreNotCalm, AreNotFlat, between, near_between, far_between, lanes_of};
+ghost use Rattle.line_filter.specs.Code.{IsNear, IsFar, wide_line_of, AreFlat, AreNotCalm, AreNotFlat, between, near_between, far_between, lanes_from, lanes_of};
 
 use crate::edge::Limits;
 use crate::far::{Far, flat_mask2};
 use crate::filters::{FarFilter, Mixed, Smooth};
-use crate::lanes::{Lanes, Rows, lanes_of, rows_of};
+use crate::lanes::{Lanes, Row, Rows, loaded, rows_of};
 use crate::near::{Near, filter_mask, flat_mask};
 use vp9_types::Sample;
 
@@ -109,12 +109,29 @@ pub fn far_masks(above: &Lanes, below: &Lanes, l: Limits) -> FarMasks
     masks_of(&rows_of(above), &rows_of(below), l)
 }
 
+/// Eight rows, one behind another, in vectors.
 #[inline(always)]
-fn filtered_far_rows<F: FarFilter>(above: &Rows, below: &Rows, l: Limits) -> (Rows, Rows)
+fn lanes_from(rows: &[Row; 8]) -> Lanes
+    ensures { result ≡ lanes_from rows.now }
+{
+    Lanes {
+        r0: loaded(&rows[0]),
+        r1: loaded(&rows[1]),
+        r2: loaded(&rows[2]),
+        r3: loaded(&rows[3]),
+        r4: loaded(&rows[4]),
+        r5: loaded(&rows[5]),
+        r6: loaded(&rows[6]),
+        r7: loaded(&rows[7]),
+    }
+}
+
+#[inline(always)]
+fn filtered_far_rows<F: FarFilter>(above: &Rows, below: &Rows, l: Limits) -> ([Row; 8], [Row; 8])
     requires near { (j : ℕ) → j < 8 → IsNear (near_between (lanes_of above.now) (lanes_of below.now) j) }
     requires far { (j : ℕ) → j < 8 → IsFar (far_between (lanes_of above.now) (lanes_of below.now) j) }
     requires half { l.half ≤ 2048 }
-    ensures { (j : ℕ) → j < 8 → wide_line_of (near_between (lanes_of result.0) (lanes_of result.1) j) (far_between (lanes_of result.0) (lanes_of result.1) j)
+    ensures { (j : ℕ) → j < 8 → wide_line_of (near_between (lanes_from result.0) (lanes_from result.1) j) (far_between (lanes_from result.0) (lanes_from result.1) j)
         ≡ F.line l (wide_line_of (near_between (lanes_of above.now) (lanes_of below.now) j) (far_between (lanes_of above.now) (lanes_of below.now) j)) }
 {
     let mut a0 = [0; 8];
@@ -152,27 +169,10 @@ fn filtered_far_rows<F: FarFilter>(above: &Rows, below: &Rows, l: Limits) -> (Ro
         b6[j] = line.far.q6;
         b7[j] = line.far.q7;
     }
-    let above = Rows {
-        r0: a0,
-        r1: a1,
-        r2: a2,
-        r3: a3,
-        r4: a4,
-        r5: a5,
-        r6: a6,
-        r7: a7,
-    };
-    let below = Rows {
-        r0: b0,
-        r1: b1,
-        r2: b2,
-        r3: b3,
-        r4: b4,
-        r5: b5,
-        r6: b6,
-        r7: b7,
-    };
-    (above, below)
+    (
+        [a0, a1, a2, a3, a4, a5, a6, a7],
+        [b0, b1, b2, b3, b4, b5, b6, b7],
+    )
 }
 
 /// Eight columns filtered by the filters of all widths, each as its line alone: eight rows above the edge, and eight
@@ -195,8 +195,8 @@ pub fn filtered_far_lanes<P: Sample, const SITE: usize>(
     let (above, below) = (rows_of(above), rows_of(below));
     if !near {
         let (upper, lower) = filtered_far_rows::<Smooth>(&above, &below, l);
-        return (lanes_of(&upper), lanes_of(&lower));
+        return (lanes_from(&upper), lanes_from(&lower));
     }
     let (upper, lower) = filtered_far_rows::<Mixed>(&above, &below, l);
-    (lanes_of(&upper), lanes_of(&lower))
+    (lanes_from(&upper), lanes_from(&lower))
 }

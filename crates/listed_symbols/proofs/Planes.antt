@@ -10,6 +10,8 @@ use Rattle.std.proofs.lemmas.Slice.{between-put_mid, take-put_mid_below, drop-pu
 use Rattle.std.proofs.Math.Nat.{mul-le-mul_right}
 use Rattle.vp9_types.specs.declared.shape.Depth.{Depth}
 use Rattle.vp9_tables.specs.Scans.{area, scan_of}
+use Rattle.block_geometry.specs.TransformBlocks.{place_at}
+use Rattle.block_geometry.specs.declared.transform_blocks.TransformPlace.{TransformPlace}
 use Rattle.prob_contexts.specs.ProbLists.{ContextLists}
 use Rattle.coef_tokens.specs.TokenKinds.{block_tables}
 use Rattle.coef_tokens.specs.Places.{Tables}
@@ -79,24 +81,24 @@ rest_listed listed k d low = rw (next k) (rest_more listed k d low)
 abbrev lists : List (Bor (List ℤ)) → List (List ℤ)
 lists listed = map (λ l. l.now) listed
 
-pub each_more : (b : BlockInPlane) (places : List (ℕ × ℕ)) (listed : List (Bor (List ℤ))) (s : PlaneLevels) (k : ℕ) (d : Bor (List ℤ)) → k < length listed → k < length places
+pub each_more : (b : BlockInPlane) (places : List TransformPlace) (listed : List (Bor (List ℤ))) (s : PlaneLevels) (k : ℕ) (d : Bor (List ℤ)) → k < length listed → k < length places
     → can_levels b.quant.depth (area b.block.tx) (get_or listed k d).now ≡ true
-    → with_each b places k (drop k (lists listed)) s ≡ with_each b places (k + 1) (drop (k + 1) (lists listed)) (with_levels b (get_or places k (0, 0)) k (get_or listed k d).now s)
+    → with_each b places k (drop k (lists listed)) s ≡ with_each b places (k + 1) (drop (k + 1) (lists listed)) (with_levels b (get_or places k (place_at 0 0)) k (get_or listed k d).now s)
 unfolding with_each
 each_more b places listed s k d low here can = rw (rest_listed listed k d low, lt-ltb k (length places) here, can) refl
 
-pub each_without_place : (b : BlockInPlane) (places : List (ℕ × ℕ)) (listed : List (Bor (List ℤ))) (s : PlaneLevels) (k : ℕ) (d : Bor (List ℤ)) → k < length listed → length places ≤ k
+pub each_without_place : (b : BlockInPlane) (places : List TransformPlace) (listed : List (Bor (List ℤ))) (s : PlaneLevels) (k : ℕ) (d : Bor (List ℤ)) → k < length listed → length places ≤ k
     → with_each b places k (drop k (lists listed)) s ≡ None
 unfolding with_each
 each_without_place b places listed s k d low none = rw (rest_listed listed k d low, le-ltb k (length places) none) refl
 
-pub each_unsayable : (b : BlockInPlane) (places : List (ℕ × ℕ)) (listed : List (Bor (List ℤ))) (s : PlaneLevels) (k : ℕ) (d : Bor (List ℤ)) → k < length listed → k < length places
+pub each_unsayable : (b : BlockInPlane) (places : List TransformPlace) (listed : List (Bor (List ℤ))) (s : PlaneLevels) (k : ℕ) (d : Bor (List ℤ)) → k < length listed → k < length places
     → can_levels b.quant.depth (area b.block.tx) (get_or listed k d).now ≡ false
     → with_each b places k (drop k (lists listed)) s ≡ None
 unfolding with_each
 each_unsayable b places listed s k d low here can = rw (rest_listed listed k d low, lt-ltb k (length places) here, can) refl
 
-pub each_ends : (b : BlockInPlane) (places : List (ℕ × ℕ)) (listed : List (Bor (List ℤ))) (s : PlaneLevels) (k : ℕ) → length listed ≤ k
+pub each_ends : (b : BlockInPlane) (places : List TransformPlace) (listed : List (Bor (List ℤ))) (s : PlaneLevels) (k : ℕ) → length listed ≤ k
     → with_each b places k (drop k (lists listed)) s ≡ Some s
 unfolding with_each
 each_ends b places listed s k all = rw (drop_all k (lists listed) (rw (length-map listed (λ l. l.now)) all)) refl
@@ -112,33 +114,33 @@ unfolding by_position
 position_long n scan levels = placed_long 0 scan levels (replicate n (pos 0)) ∙ length-replicate n (pos 0)
 
 -- what the k-th transform block says
-abbrev SaysAt : ContextLists → BlockInPlane → List (ℕ × ℕ) → PlaneLevels → ℕ → Type 0
-SaysAt contexts b places s k = CanPutAt contexts b (get_or places k (0, 0)) (levels_at s (area b.block.tx) k) (slice_index s.counts k)
+abbrev SaysAt : ContextLists → BlockInPlane → List TransformPlace → PlaneLevels → ℕ → Type 0
+SaysAt contexts b places s k = CanPutAt contexts b (get_or places k (place_at 0 0)) (levels_at s (area b.block.tx) k) (slice_index s.counts k)
 
-here_can : (contexts : ContextLists) (b : BlockInPlane) (places : List (ℕ × ℕ)) (levels : List ℤ) (s : PlaneLevels) (k : ℕ) → k < length s.counts → k * area b.block.tx ≤ length s.values
-    → CanPut (block_tables contexts (token_kind b (get_or places k (0, 0)).0 (get_or places k (0, 0)).1))
-    (by_position (area b.block.tx) (scan_of b.block.tx (type_at b (get_or places k (0, 0)).0 (get_or places k (0, 0)).1)) levels) (length levels)
-    → SaysAt contexts b places (with_levels b (get_or places k (0, 0)) k levels s) k
+here_can : (contexts : ContextLists) (b : BlockInPlane) (places : List TransformPlace) (levels : List ℤ) (s : PlaneLevels) (k : ℕ) → k < length s.counts → k * area b.block.tx ≤ length s.values
+    → CanPut (block_tables contexts (token_kind b (get_or places k (place_at 0 0)).row (get_or places k (place_at 0 0)).column))
+    (by_position (area b.block.tx) (scan_of b.block.tx (type_at b (get_or places k (place_at 0 0)).row (get_or places k (place_at 0 0)).column)) levels) (length levels)
+    → SaysAt contexts b places (with_levels b (get_or places k (place_at 0 0)) k levels s) k
 unfolding with_levels
 here_can contexts b places levels s k low long can =
     rw (in_run s.values _ k (area b.block.tx) long (position_long (area b.block.tx) _ levels), get_or-set_same s.counts k (length levels) 0 low) can
 
-other_can : (contexts : ContextLists) (b : BlockInPlane) (places : List (ℕ × ℕ)) (at : ℕ × ℕ) (levels : List ℤ) (s : PlaneLevels) (j k : ℕ) → j ≢ k → k * area b.block.tx ≤ length s.values
+other_can : (contexts : ContextLists) (b : BlockInPlane) (places : List TransformPlace) (at : TransformPlace) (levels : List ℤ) (s : PlaneLevels) (j k : ℕ) → j ≢ k → k * area b.block.tx ≤ length s.values
     → SaysAt contexts b places s j → SaysAt contexts b places (with_levels b at k levels s) j
 unfolding with_levels
 other_can contexts b places at levels s j k other long can =
     let tx = b.block.tx in
-    let run = by_position (area tx) (scan_of tx (type_at b at.0 at.1)) levels in
+    let run = by_position (area tx) (scan_of tx (type_at b at.row at.column)) levels in
     rw (beside_run s.values run j k (area tx) other long (position_long (area tx) _ levels), get_or-set_other s.counts k j (length levels) 0 other) can
 
-pub can_more : (contexts : ContextLists) (b : BlockInPlane) (places : List (ℕ × ℕ)) (levels : List ℤ) (s : PlaneLevels) (k : ℕ) → k < length s.counts → k * area b.block.tx ≤ length s.values
-    → CanPut (block_tables contexts (token_kind b (get_or places k (0, 0)).0 (get_or places k (0, 0)).1))
-    (by_position (area b.block.tx) (scan_of b.block.tx (type_at b (get_or places k (0, 0)).0 (get_or places k (0, 0)).1)) levels) (length levels)
-    → CanPutAll contexts b places s → CanPutAll contexts b places (with_levels b (get_or places k (0, 0)) k levels s)
+pub can_more : (contexts : ContextLists) (b : BlockInPlane) (places : List TransformPlace) (levels : List ℤ) (s : PlaneLevels) (k : ℕ) → k < length s.counts → k * area b.block.tx ≤ length s.values
+    → CanPut (block_tables contexts (token_kind b (get_or places k (place_at 0 0)).row (get_or places k (place_at 0 0)).column))
+    (by_position (area b.block.tx) (scan_of b.block.tx (type_at b (get_or places k (place_at 0 0)).row (get_or places k (place_at 0 0)).column)) levels) (length levels)
+    → CanPutAll contexts b places s → CanPutAll contexts b places (with_levels b (get_or places k (place_at 0 0)) k levels s)
 can_more contexts b places levels s k low long can all j within =
     elim (cases_Bool (nat_eq j k)) [
       | inl one ↦ rw (eqb-true j k one) (here_can contexts b places levels s k low long can)
-      | inr none ↦ other_can contexts b places (get_or places k (0, 0)) levels s j k (eqb-false j k none) long (all j within)
+      | inr none ↦ other_can contexts b places (get_or places k (place_at 0 0)) levels s j k (eqb-false j k none) long (all j within)
     ]
 
 -- those that have no levels
@@ -166,7 +168,7 @@ none_counted zero k = refl
 none_counted (suc n) zero = refl
 none_counted (suc n) (suc k) = none_counted n k
 
-pub none_can : (contexts : ContextLists) (b : BlockInPlane) (places : List (ℕ × ℕ)) (s : PlaneLevels) → s ≡ no_levels → CanPutAll contexts b places s
+pub none_can : (contexts : ContextLists) (b : BlockInPlane) (places : List TransformPlace) (s : PlaneLevels) → s ≡ no_levels → CanPutAll contexts b places s
 none_can contexts b places s is k low =
     rw (is, none_counted 256 k)
     (zeros_can _ _ (All-take (λ v. v ≡ pos 0) (area b.block.tx) _ (All-drop (λ v. v ≡ pos 0) (k * area b.block.tx) _ (All-replicate (λ v. v ≡ pos 0) 4096 (pos 0) refl))))

@@ -4,6 +4,8 @@ use Rattle.std.specs.List.{list_all}
 use Rattle.vp9_types.specs.declared.shape.Depth.{Depth}
 use Rattle.vp9_tables.specs.Coefficients.{category_of}
 use Rattle.vp9_tables.specs.Scans.{area, scan_of}
+use Rattle.block_geometry.specs.TransformBlocks.{place_at}
+use Rattle.block_geometry.specs.declared.transform_blocks.TransformPlace.{TransformPlace}
 use Rattle.residue_syntax.specs.BlocksInPlanes.{type_at}
 use Rattle.residue_syntax.specs.declared.in_plane.BlockInPlane.{BlockInPlane}
 use Rattle.residue_writer.specs.declared.levels.PlaneLevels.{PlaneLevels}
@@ -43,21 +45,21 @@ abbrev pub with_run : ℕ → ℕ → List ℤ → List ℤ → List ℤ
 with_run from count run values = take from values ++ (run ++ drop count (drop from values))
 
 -- the k-th transform block, which stands at a row and column, has these levels
-unfoldable pub with_levels : BlockInPlane → ℕ × ℕ → ℕ → List ℤ → PlaneLevels → PlaneLevels
+unfoldable pub with_levels : BlockInPlane → TransformPlace → ℕ → List ℤ → PlaneLevels → PlaneLevels
 with_levels b at k levels s =
     let tx = b.block.tx in
     record {
       counts = slice_set s.counts k (length levels);
-      values = with_run (k * area tx) (area tx) (by_position (area tx) (scan_of tx (type_at b at.0 at.1)) levels) s.values;
+      values = with_run (k * area tx) (area tx) (by_position (area tx) (scan_of tx (type_at b at.row at.column)) levels) s.values;
     }
 
 -- the transform blocks from the k-th on have levels that are listed one after another, if tokens can say them; those behind
 -- have none, and there is a transform block for each
-unfoldable pub with_each : BlockInPlane → List (ℕ × ℕ) → ℕ → List (List ℤ) → PlaneLevels → Option PlaneLevels
+unfoldable pub with_each : BlockInPlane → List TransformPlace → ℕ → List (List ℤ) → PlaneLevels → Option PlaneLevels
 with_each b places k [] s = Some s
 with_each b places k (levels ∷ lists) s =
     if nat_lt k (length places) && can_levels b.quant.depth (area b.block.tx) levels
-    then with_each b places (k + 1) lists (with_levels b (get_or places k (0, 0)) k levels s) else None
+    then with_each b places (k + 1) lists (with_levels b (get_or places k (place_at 0 0)) k levels s) else None
 
 abbrev pub no_levels : PlaneLevels
 no_levels = record { counts = replicate 256 0; values = replicate 4096 (pos 0) }

@@ -17,7 +17,7 @@ ghost use Rattle.listed_symbols.specs.ListedLevels.{by_position, can_levels, no_
 
 use crate::levels::{can_levels, place_levels};
 use crate::lists::ListedLevels;
-use block_geometry::{TransformGrid, transform_grid};
+use block_geometry::{TransformGrid, TransformPlace, transform_grid};
 use block_plan::BlockInfo;
 use frame_setting::FrameSetting;
 use residue_syntax::BlockInPlane;
@@ -30,12 +30,12 @@ use vp9_types::Plane;
 fn put_levels(
     levels: &mut PlaneLevels,
     b: &BlockInPlane,
-    at: (usize, usize),
+    at: TransformPlace,
     k: usize,
     listed: &[i32],
 )
-    requires y { at.0 < 16 }
-    requires x { at.1 < 16 }
+    requires down { at.row < 16 }
+    requires across { at.column < 16 }
     requires k { k < 256 }
     requires room { k * area b.now.block.tx + area b.now.block.tx ≤ 4096 }
     requires few { length listed.now ≤ area b.now.block.tx }
@@ -43,10 +43,10 @@ fn put_levels(
     ensures made { levels.new ≡ with_levels b.now at k listed.now levels.old }
     ensures counts { length levels.new.counts ≡ 256 }
     ensures values { length levels.new.values ≡ 4096 }
-    ensures can { (contexts : ContextLists) → CanPut (block_tables contexts (token_kind b.now at.0 at.1)) (by_position (area b.now.block.tx) (scan_of b.now.block.tx (type_at b.now at.0 at.1)) listed.now) (length listed.now) }
+    ensures can { (contexts : ContextLists) → CanPut (block_tables contexts (token_kind b.now at.row at.column)) (by_position (area b.now.block.tx) (scan_of b.now.block.tx (type_at b.now at.row at.column)) listed.now) (length listed.now) }
 {
     let area = area_of(b.block.tx);
-    let kind = b.token_kind(at.0, at.1);
+    let kind = b.token_kind(at.row, at.column);
     let from = k * area;
     levels.counts[k] = listed.len() as u32;
     place_levels(

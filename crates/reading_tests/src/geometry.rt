@@ -1,8 +1,8 @@
 //! Grids of transform blocks as tools/vectors.py grids has them, and contexts of partitions written out by hand.
 
 use block_geometry::{
-    FramePlaces, PlaneBlock, greatest_tx, height_4, height_8, is_below_8x8, part_size,
-    partition_context, square, transform_grid, width_4, width_8,
+    FramePlaces, PlaneBlock, greatest_tx, height_4, height_8, is_below_8x8, part_size, square,
+    transform_grid, width_4, width_8,
 };
 use vp9_types::{BlockSize, Partition, TxMode, TxSize};
 
@@ -135,20 +135,6 @@ fn grids(rt: HostRuntime) {
         let grid = transform_grid(frame, block);
         assert_eq!(rt; (grid.rows, grid.columns), *found);
     }
-}
-
-#[test]
-fn contexts(rt: HostRuntime) {
-    assert_eq!(rt; partition_context(BlockSize::B8x8, &[1], &[2]), 1);
-    assert_eq!(rt; partition_context(BlockSize::B8x8, &[2], &[1]), 2);
-    assert_eq!(rt;
-        partition_context(BlockSize::B32x32, &[8, 8, 4, 4], &[16; 4]),
-        9
-    );
-    assert_eq!(rt;
-        partition_context(BlockSize::B64x64, &[16; 8], &[16; 8]),
-        12
-    );
 }
 
 #[test]

@@ -6,6 +6,8 @@ use Rattle.vp9_types.specs.declared.shape.Plane.{Plane}
 use Rattle.vp9_types.specs.declared.shape.Plane.TheVariants.{Y, U, V}
 use Rattle.vp9_tables.specs.Scans.{area}
 use Rattle.vp9_types.specs.declared.shape.Shape.{Shape}
+use Rattle.block_geometry.specs.TransformBlocks.{place_at}
+use Rattle.block_geometry.specs.declared.transform_blocks.TransformPlace.{TransformPlace}
 use Rattle.block_plan.specs.InPlanes.{places_in, tx_in}
 use Rattle.block_plan.specs.Planned.{Residue}
 use Rattle.block_plan.specs.declared.block.BlockInfo.{BlockInfo}
@@ -16,27 +18,27 @@ use Rattle.column_plan.specs.Code as plan
 use Rattle.column_plan.specs.Code.{AreWhole, HoldsWhole}
 use Rattle.recon_rows.specs.BlockParts.{first_in, has_piece, piece_residue}
 
-length_from : (ats : List (ℕ × ℕ)) (pieces : List (List ℤ)) → length ats ≤ length pieces → length (residues_from ats pieces) ≡ length ats
+length_from : (ats : List TransformPlace) (pieces : List (List ℤ)) → length ats ≤ length pieces → length (residues_from ats pieces) ≡ length ats
 unfolding residues_from
 length_from [] pieces fits = refl
 length_from (at ∷ ats) [] fits = absurd (omega (arith, fits))
 length_from (at ∷ ats) (x ∷ pieces) fits = ap (λ n. suc n) (length_from ats pieces (omega (arith, fits)))
 
-from_is : (ats : List (ℕ × ℕ)) (pieces : List (List ℤ)) (k : ℕ) (d : (ℕ × ℕ) × Residue) → length ats ≤ length pieces → k < length ats
-    → get_or (residues_from ats pieces) k d ≡ (get_or ats k (0, 0), residue_of_piece (get_or pieces k []))
+from_is : (ats : List TransformPlace) (pieces : List (List ℤ)) (k : ℕ) (d : TransformPlace × Residue) → length ats ≤ length pieces → k < length ats
+    → get_or (residues_from ats pieces) k d ≡ (get_or ats k (place_at 0 0), residue_of_piece (get_or pieces k []))
 unfolding residues_from
 from_is [] pieces k d fits low = absurd (omega (arith, low))
 from_is (at ∷ ats) [] k d fits low = absurd (omega (arith, fits))
 from_is (at ∷ ats) (x ∷ pieces) zero d fits low = refl
 from_is (at ∷ ats) (x ∷ pieces) (suc k) d fits low = from_is ats pieces k d (omega (arith, fits)) (omega (arith, low))
 
-pub taken_from : (ats : List (ℕ × ℕ)) (pieces : List (List ℤ)) (n : ℕ) → n + length ats ≤ length pieces → residues_at (piece_residue pieces n) ats ≡ residues_from ats (drop n pieces)
+pub taken_from : (ats : List TransformPlace) (pieces : List (List ℤ)) (n : ℕ) → n + length ats ≤ length pieces → residues_at (piece_residue pieces n) ats ≡ residues_from ats (drop n pieces)
 taken_from ats pieces n fits =
     let few : length ats ≤ length (drop n pieces) = rw (length-drop n pieces) (omega (arith, fits)) in
     same_lists (residues_at (piece_residue pieces n) ats) (residues_from ats (drop n pieces)) (length_first (piece_residue pieces n) ats (length ats) ∙ sym (length_from ats (drop n pieces) few))
     (λ k d low. let lt : k < length ats = rw (length_first (piece_residue pieces n) ats (length ats)) at low in
     first_is (piece_residue pieces n) ats (length ats) k d lt
-    ∙ sym (from_is ats (drop n pieces) k d few lt ∙ ap (λ (x : List ℤ). (get_or ats k (0, 0), residue_of_piece x)) (get_or-drop n pieces k [])))
+    ∙ sym (from_is ats (drop n pieces) k d few lt ∙ ap (λ (x : List ℤ). (get_or ats k (place_at 0 0), residue_of_piece x)) (get_or-drop n pieces k [])))
 
 pub planned_is : (shape : Shape) (tile_from : ℕ) (b : BlockInfo) (pieces : List (List ℤ)) (y u v : ℕ) → u ≡ y + count_in shape b Y → v ≡ u + count_in shape b U → v + count_in shape b V ≤ length pieces
     → planned_by (λ p area k. piece_residue pieces (first_in y u v p) k) shape tile_from b ≡ planned_from shape tile_from b (drop y pieces)
@@ -58,9 +60,9 @@ held_is : (shape : Shape) (b : BlockInfo) (p : Plane) (pieces : List (List ℤ))
     → AreWhole (area (tx_in shape b p)) (residues_from (places_in shape b p) (drop n pieces)) → has_piece pieces n (area (tx_in shape b p)) k
 held_is shape b p pieces n k fits low whole =
     let few : length (places_in shape b p) ≤ length (drop n pieces) = rw (length-drop n pieces) (omega (arith, fits)) in
-    let d : (ℕ × ℕ) × Residue = ((0, 0), None) in
+    let d : TransformPlace × Residue = (place_at 0 0, None) in
     let here = whole k d (rw (length_from (places_in shape b p) (drop n pieces) few) low) in
-    let one = subst (λ (r : (ℕ × ℕ) × Residue). plan.IsWhole (area (tx_in shape b p)) r.1) (from_is (places_in shape b p) (drop n pieces) k d few low) here in
+    let one = subst (λ (r : TransformPlace × Residue). plan.IsWhole (area (tx_in shape b p)) r.1) (from_is (places_in shape b p) (drop n pieces) k d few low) here in
     (omega (arith, low, fits), rw (sym (get_or-drop n pieces k [])) (whole_same (area (tx_in shape b p)) (residue_of_piece (get_or (drop n pieces) k [])) one))
 
 pub all_held : (shape : Shape) (tile_from : ℕ) (b : BlockInfo) (pieces : List (List ℤ)) (y u v : ℕ) → u ≡ y + count_in shape b Y → v ≡ u + count_in shape b U → v + count_in shape b V ≤ length pieces

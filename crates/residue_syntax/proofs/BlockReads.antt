@@ -9,6 +9,7 @@ use Rattle.vp9_types.specs.declared.shape.Plane.TheVariants.{Y, U, V}
 use Rattle.vp9_types.specs.declared.shape.Shape.{Shape}
 use Rattle.block_geometry.proofs.Rasters.{all_inside}
 use Rattle.block_geometry.specs.FrameShapes.{places_of}
+use Rattle.block_geometry.specs.declared.transform_blocks.TransformPlace.{TransformPlace}
 use Rattle.block_plan.specs.InPlanes.{plane_block, places_in}
 use Rattle.block_plan.specs.Planned.{Residues}
 use Rattle.block_plan.specs.declared.block.BlockInfo.{BlockInfo}
@@ -54,17 +55,17 @@ beside shape b V y x s fit inside = record {
 }
 
 pub all_beside : (shape : Shape) (b : BlockInfo) (p : Plane) (s : Sides) → FitPlane shape p s
-    → All (λ (at : ℕ × ℕ). IsBeside (plane_block shape b p) at.0 at.1 s) (places_in shape b p)
+    → All (λ (at : TransformPlace). IsBeside (plane_block shape b p) at.row at.column s) (places_in shape b p)
 all_beside shape b p s fit = λ k d low. beside shape b p _ _ s fit (all_inside (places_of shape) (plane_block shape b p) k d low)
 
 ---- A plane ----
 
-pub plane_skipped : (contexts : ContextLists) (skip : Bool) (b : BlockInPlane) (places : List (ℕ × ℕ)) (s : Sides) (r : ReadPlane) (m : Standing)
+pub plane_skipped : (contexts : ContextLists) (skip : Bool) (b : BlockInPlane) (places : List TransformPlace) (s : Sides) (r : ReadPlane) (m : Standing)
     → skip ≡ true → read_skipped b places s ≡ r → run_counting (read_in_plane contexts skip b places s) m ≡ Ok (r, m)
 unfolding read_in_plane
 plane_skipped contexts skip b places s r m skips is = rw (skips, is) (run_settle r m)
 
-pub plane_coded : {n : ℕ} (contexts : ContextLists) (skip : Bool) (b : BlockInPlane) (places : List (ℕ × ℕ)) (s t : Sides) (residues : Residues) (old new : CountingReader n) (result : Result Bool Rule)
+pub plane_coded : {n : ℕ} (contexts : ContextLists) (skip : Bool) (b : BlockInPlane) (places : List TransformPlace) (s t : Sides) (residues : Residues) (old new : CountingReader n) (result : Result Bool Rule)
     → skip ≡ false → GivesPlane (through (read_next contexts b) places (record { residues = []; sides = s })) old result residues t new
     → GivesPlane (read_in_plane contexts skip b places s) old result residues t new
 unfolding read_in_plane

@@ -12,10 +12,11 @@ use Rattle.vp9_types.specs.declared.block.TxSize.{TxSize}
 use Rattle.vp9_types.specs.declared.block.TxSize.TheVariants.{T4x4, T8x8, T16x16, T32x32}
 use Rattle.vp9_tables.specs.Scans.{area}
 use Rattle.prob_contexts.specs.ProbLists.{ContextLists}
-use Rattle.block_geometry.specs.TransformBlocks.{grid_blocks, tx_step}
+use Rattle.block_geometry.specs.TransformBlocks.{grid_blocks, tx_step, place_at}
 use Rattle.block_geometry.specs.declared.transform_blocks.PlaneBlock.{PlaneBlock}
 use Rattle.block_geometry.specs.declared.transform_blocks.TransformGrid.{TransformGrid}
 use Rattle.block_geometry.proofs.Rasters.{length_grid}
+use Rattle.block_geometry.specs.declared.transform_blocks.TransformPlace.{TransformPlace}
 use Rattle.block_plan.proofs.Held.{held_next, one_long}
 use Rattle.block_plan.specs.Code.{residue_if, residues_held, IsSmall, AreSmall}
 use Rattle.block_plan.specs.Planned.{Residue, Residues}
@@ -27,62 +28,62 @@ use Rattle.residue_syntax.specs.Residues.{ReadPlane, read_residue, read_next, is
 use Rattle.residue_syntax.specs.Sides.{Sides}
 use Rattle.residue_syntax.specs.declared.in_plane.BlockInPlane.{BlockInPlane}
 
-next_read : (contexts : ContextLists) (b : BlockInPlane) (at : ℕ × ℕ) (y x : ℕ) (residues : Residues) (s t : Sides) (r : Residue) (m n : Standing) → at ≡ (y, x)
-    → run_counting (read_residue contexts b y x s) m ≡ Ok ((r, t), n)
+next_read : (contexts : ContextLists) (b : BlockInPlane) (at place : TransformPlace) (residues : Residues) (s t : Sides) (r : Residue) (m n : Standing) → at ≡ place
+    → run_counting (read_residue contexts b place.row place.column s) m ≡ Ok ((r, t), n)
     → run_counting (read_next contexts b at (record { residues = residues; sides = s })) m ≡ Ok (record { residues = residues ++ (at, r) ∷ []; sides = t }, n)
 unfolding read_next
-next_read contexts b at y x residues s t r m n is read =
-    counting_bind (read_residue contexts b at.0 at.1 s) _ m ∙ rw (ap (λ (p : ℕ × ℕ). run_counting (read_residue contexts b p.0 p.1 s) m) is ∙ read) (run_settle _ n)
+next_read contexts b at place residues s t r m n is read =
+    counting_bind (read_residue contexts b at.row at.column s) _ m ∙ rw (ap (λ (p : TransformPlace). run_counting (read_residue contexts b p.row p.column s) m) is ∙ read) (run_settle _ n)
 
-pub next_broken : (contexts : ContextLists) (b : BlockInPlane) (at : ℕ × ℕ) (y x : ℕ) (residues : Residues) (s : Sides) (m : Standing) (rule : Rule) → at ≡ (y, x)
-    → run_counting (read_residue contexts b y x s) m ≡ Err rule → run_counting (read_next contexts b at (record { residues = residues; sides = s })) m ≡ Err rule
+pub next_broken : (contexts : ContextLists) (b : BlockInPlane) (at place : TransformPlace) (residues : Residues) (s : Sides) (m : Standing) (rule : Rule) → at ≡ place
+    → run_counting (read_residue contexts b place.row place.column s) m ≡ Err rule → run_counting (read_next contexts b at (record { residues = residues; sides = s })) m ≡ Err rule
 unfolding read_next
-next_broken contexts b at y x residues s m rule is read =
-    counting_bind (read_residue contexts b at.0 at.1 s) _ m ∙ rw (ap (λ (p : ℕ × ℕ). run_counting (read_residue contexts b p.0 p.1 s) m) is ∙ read) refl
+next_broken contexts b at place residues s m rule is read =
+    counting_bind (read_residue contexts b at.row at.column s) _ m ∙ rw (ap (λ (p : TransformPlace). run_counting (read_residue contexts b p.row p.column s) m) is ∙ read) refl
 
-pub more_read : (contexts : ContextLists) (b : BlockInPlane) (ats : List (ℕ × ℕ)) (area : ℕ) (some : List Bool) (values new : List ℤ) (v : Bool) (k y x : ℕ) (start : ReadPlane) (begin m n : Standing) (s t : Sides)
-    → k < length ats → k < length some → k * area ≤ length values → length new ≡ area → get_or ats k (0, 0) ≡ (y, x)
+pub more_read : (contexts : ContextLists) (b : BlockInPlane) (ats : List TransformPlace) (area : ℕ) (some : List Bool) (values new : List ℤ) (v : Bool) (k : ℕ) (place : TransformPlace) (start : ReadPlane) (begin m n : Standing) (s t : Sides)
+    → k < length ats → k < length some → k * area ≤ length values → length new ≡ area → get_or ats k (place_at 0 0) ≡ place
     → Reached (read_next contexts b) ats start begin k (record { residues = residues_held ats area some values k; sides = s }) m
-    → run_counting (read_residue contexts b y x s) m ≡ Ok ((residue_if v new, t), n)
+    → run_counting (read_residue contexts b place.row place.column s) m ≡ Ok ((residue_if v new, t), n)
     → Reached (read_next contexts b) ats start begin (k + 1) (record { residues = residues_held ats area (set some k v) (put_mid (k * area) area values new) (k + 1); sides = t }) n
-more_read contexts b ats area some values new v k y x start begin m n s t low room long size at reached read =
+more_read contexts b ats area some values new v k place start begin m n s t low room long size at reached read =
     rw (held_next ats area some values new v k room long size)
-    (goes_on (read_next contexts b) ats start _ _ begin m n k (0, 0) low reached (next_read contexts b (get_or ats k (0, 0)) y x _ s t (residue_if v new) m n at read))
+    (goes_on (read_next contexts b) ats start _ _ begin m n k (place_at 0 0) low reached (next_read contexts b (get_or ats k (place_at 0 0)) place _ s t (residue_if v new) m n at read))
 
 -- one more is coded or none is
-coded_one : (at : ℕ × ℕ) (v : Bool) (new : List ℤ) → list_any is_coded ((at, residue_if v new) ∷ []) ≡ v
+coded_one : (at : TransformPlace) (v : Bool) (new : List ℤ) → list_any is_coded ((at, residue_if v new) ∷ []) ≡ v
 coded_one at true new = refl
 coded_one at false new = refl
 
-pub more_coded : (ats : List (ℕ × ℕ)) (area : ℕ) (some : List Bool) (values new : List ℤ) (any v : Bool) (k : ℕ) → k < length some → k * area ≤ length values → length new ≡ area
+pub more_coded : (ats : List TransformPlace) (area : ℕ) (some : List Bool) (values new : List ℤ) (any v : Bool) (k : ℕ) → k < length some → k * area ≤ length values → length new ≡ area
     → any ≡ list_any is_coded (residues_held ats area some values k)
     → (any || v) ≡ list_any is_coded (residues_held ats area (set some k v) (put_mid (k * area) area values new) (k + 1))
 more_coded ats area some values new any v k room long size so =
     rw (held_next ats area some values new v k room long size)
-    (sym (list_any-append is_coded (residues_held ats area some values k) ((get_or ats k (0, 0), residue_if v new) ∷ [])
-    ∙ (ap (λ (w : Bool). list_any is_coded (residues_held ats area some values k) || w) (coded_one (get_or ats k (0, 0)) v new)
+    (sym (list_any-append is_coded (residues_held ats area some values k) ((get_or ats k (place_at 0 0), residue_if v new) ∷ [])
+    ∙ (ap (λ (w : Bool). list_any is_coded (residues_held ats area some values k) || w) (coded_one (get_or ats k (place_at 0 0)) v new)
     ∙ ap (λ (w : Bool). w || v) (sym so))))
 
 small_if : (v : Bool) (new : List ℤ) → All (λ x. unsigned_abs x < 2 ^ 24) new → IsSmall (residue_if v new)
 small_if true new small = small
 small_if false new small = tt
 
-one_small : (r : (ℕ × ℕ) × Residue) → IsSmall r.1 → AreSmall (r ∷ [])
+one_small : (r : TransformPlace × Residue) → IsSmall r.1 → AreSmall (r ∷ [])
 one_small r small zero d low = small
 one_small r small (suc k) d low = absurd (omega arith)
 
-pub more_small : (ats : List (ℕ × ℕ)) (area : ℕ) (some : List Bool) (values new : List ℤ) (v : Bool) (k : ℕ) → k < length some → k * area ≤ length values → length new ≡ area
+pub more_small : (ats : List TransformPlace) (area : ℕ) (some : List Bool) (values new : List ℤ) (v : Bool) (k : ℕ) → k < length some → k * area ≤ length values → length new ≡ area
     → AreSmall (residues_held ats area some values k) → All (λ x. unsigned_abs x < 2 ^ 24) new
     → AreSmall (residues_held ats area (set some k v) (put_mid (k * area) area values new) (k + 1))
 more_small ats area some values new v k room long size so small =
     rw (held_next ats area some values new v k room long size)
-    (All-append (λ (r : (ℕ × ℕ) × Residue). IsSmall r.1) (residues_held ats area some values k) ((get_or ats k (0, 0), residue_if v new) ∷ []) so (one_small (get_or ats k (0, 0), residue_if v new) (small_if v new small)))
+    (All-append (λ (r : TransformPlace × Residue). IsSmall r.1) (residues_held ats area some values k) ((get_or ats k (place_at 0 0), residue_if v new) ∷ []) so (one_small (get_or ats k (place_at 0 0), residue_if v new) (small_if v new small)))
 
 -- a row and column of the grid has its flags
-pub beside_at : (s t : Sides) (b : PlaneBlock) (grid : TransformGrid) (k y x : ℕ) → All (λ at. IsBeside b at.0 at.1 s) (grid_blocks grid) → KeepsLengths s t
-    → k < grid.rows * grid.columns → get_or (grid_blocks grid) k (0, 0) ≡ (y, x) → IsBeside b y x t
-beside_at s t b grid k y x beside keeps low at =
-    let here = rw at at (beside k (0, 0) (rw (length_grid grid) low)) in
+pub beside_at : (s t : Sides) (b : PlaneBlock) (grid : TransformGrid) (k : ℕ) (place : TransformPlace) → All (λ at. IsBeside b at.row at.column s) (grid_blocks grid) → KeepsLengths s t
+    → k < grid.rows * grid.columns → get_or (grid_blocks grid) k (place_at 0 0) ≡ place → IsBeside b place.row place.column t
+beside_at s t b grid k place beside keeps low at =
+    let here = rw at at (beside k (place_at 0 0) (rw (length_grid grid) low)) in
     record { row = rw keeps.left here.row; column = rw keeps.above here.column }
 
 ---- Room ----

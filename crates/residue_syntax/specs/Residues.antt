@@ -29,6 +29,7 @@ use Rattle.residue_syntax.specs.Sides.{Sides}
 use Rattle.residue_syntax.specs.declared.in_plane.BlockInPlane.{BlockInPlane}
 use Rattle.residue_syntax.specs.declared.sides.TileSides.{TileSides}
 use Rattle.block_geometry.specs.declared.transform_blocks.PlaneBlock.{PlaneBlock}
+use Rattle.block_geometry.specs.declared.transform_blocks.TransformPlace.{TransformPlace}
 
 ---- A transform block ----
 
@@ -65,9 +66,9 @@ pub record ReadPlane : Type 0 where
   pub residues : Residues
   pub sides : Sides
 
-unfoldable pub read_next : ContextLists → BlockInPlane → ℕ × ℕ → ReadPlane → Syntax ℕ Rule (Settled ReadPlane)
+unfoldable pub read_next : ContextLists → BlockInPlane → TransformPlace → ReadPlane → Syntax ℕ Rule (Settled ReadPlane)
 read_next contexts b at s = do
-  r ← read_residue contexts b at.0 at.1 s.sides
+  r ← read_residue contexts b at.row at.column s.sides
   settle (record { residues = s.residues ++ (at, r.0) ∷ []; sides = r.1 })
 
 -- a skipped block has no coefficients
@@ -77,11 +78,11 @@ skipped_sides b s = record {
   left = marked s.left (flag_row b 0) (plane_side b.ss_y (height_of b.size)) false;
 }
 
-unfoldable pub read_skipped : BlockInPlane → List (ℕ × ℕ) → Sides → ReadPlane
+unfoldable pub read_skipped : BlockInPlane → List TransformPlace → Sides → ReadPlane
 read_skipped b places s = record { residues = map (λ at. (at, None)) places; sides = skipped_sides b.block s }
 
--- its transform blocks lie at these places, in 4s
-unfoldable pub read_in_plane : ContextLists → Bool → BlockInPlane → List (ℕ × ℕ) → Sides → Syntax ℕ Rule (Settled ReadPlane)
+-- its transform blocks lie at these places
+unfoldable pub read_in_plane : ContextLists → Bool → BlockInPlane → List TransformPlace → Sides → Syntax ℕ Rule (Settled ReadPlane)
 read_in_plane contexts skip b places s =
     if skip then settle (read_skipped b places s) else through (read_next contexts b) places (record { residues = []; sides = s })
 
@@ -90,7 +91,7 @@ read_in_plane contexts skip b places s =
 abbrev pub read_plane : Header → ContextLists → BlockInfo → Plane → Sides → Syntax ℕ Rule (Settled ReadPlane)
 read_plane header contexts b p s = read_in_plane contexts b.skip (block_in header b p) (places_in (shape_of header) b p) s
 
-abbrev pub is_coded : (ℕ × ℕ) × Residue → Bool
+abbrev pub is_coded : TransformPlace × Residue → Bool
 is_coded (at, None) = false
 is_coded (at, Some values) = true
 

@@ -4,7 +4,8 @@ ghost use Rattle.std.specs.Prelude.{◌≡◌, ◌<◌, ◌≤◌, ◌*◌, ℕ,
 ghost use Rattle.std.specs.List.{All, list_any};
 ghost use Rattle.block_geometry.specs.Code.{IsSmallGrid};
 ghost use Rattle.block_geometry.specs.TransformBlocks.{grid_blocks, tx_step};
-ghost use Rattle.block_plan.specs.Code.{held, residues_held, AreSmall};
+ghost use Rattle.block_geometry.specs.declared.transform_blocks.TransformPlace.{TransformPlace};
+ghost use Rattle.block_plan.specs.Code.{held, AreSmall};
 ghost use Rattle.counting_reader.specs.Counting.{through};
 ghost use Rattle.prob_contexts.specs.ProbLists.{lists_of};
 ghost use Rattle.vp9_tables.specs.Scans.{area};
@@ -34,7 +35,7 @@ fn read_residues<const COUNTS: bool>(
 ) -> Result<bool, Rule>
     requires small { IsSmallGrid grid.now }
     requires step { grid.now.step ≡ tx_step b.now.block.tx }
-    requires beside { All (λ at. IsBeside b.now.block at.0 at.1 sides.old) (grid_blocks grid.now) }
+    requires beside { All (λ at. IsBeside b.now.block at.row at.column sides.old) (grid_blocks grid.now) }
     ensures gives { GivesPlane (through (read_next (lists_of contexts.now) b.now) (grid_blocks grid.now) (record { residues = []; sides = sides.old }))
         reader.old result (held (grid_blocks grid.now) (area b.now.block.tx) residues.new) sides.new reader.new }
     ensures lengths { KeepsLengths sides.old sides.new }
@@ -76,7 +77,7 @@ pub(crate) fn read_coded<const COUNTS: bool>(
 ) -> Result<bool, Rule>
     requires small { IsSmallGrid grid.now }
     requires step { grid.now.step ≡ tx_step b.now.block.tx }
-    requires beside { All (λ at. IsBeside b.now.block at.0 at.1 sides.old) (grid_blocks grid.now) }
+    requires beside { All (λ at. IsBeside b.now.block at.row at.column sides.old) (grid_blocks grid.now) }
     ensures gives { GivesPlane (through (read_next (lists_of contexts.now) b.now) (grid_blocks grid.now) (record { residues = []; sides = sides.old }))
         reader.old result (held (grid_blocks grid.now) (area b.now.block.tx) residues.new) sides.new reader.new }
     ensures lengths { KeepsLengths sides.old sides.new }
@@ -111,11 +112,11 @@ fn clear_flags(flags: &mut [bool])
 /// Says of a skipped block that it has none, wherever its transform blocks lie.
 pub(crate) fn skip_residues(sides: &mut Sides, block: &PlaneBlock, residues: &mut PlaneResidues)
     requires beside { IsBeside block.now 0 0 sides.old }
-    ensures read { (b : BlockInPlane) (places : List (ℕ × ℕ)) → b.block ≡ block.now →
+    ensures read { (b : BlockInPlane) (places : List TransformPlace) → b.block ≡ block.now →
         read_skipped b places sides.old ≡ record { residues = held places (area b.block.tx) residues.new; sides = sides.new } }
-    ensures none { (places : List (ℕ × ℕ)) (n : ℕ) → list_any is_coded (held places n residues.new) ≡ false }
+    ensures none { (places : List TransformPlace) (n : ℕ) → list_any is_coded (held places n residues.new) ≡ false }
     ensures lengths { KeepsLengths sides.old sides.new }
-    ensures small { (places : List (ℕ × ℕ)) (n : ℕ) → AreSmall (held places n residues.new) }
+    ensures small { (places : List TransformPlace) (n : ℕ) → AreSmall (held places n residues.new) }
 {
     clear_flags(&mut residues.some);
     sides.mark_skipped(block);

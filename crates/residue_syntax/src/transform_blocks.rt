@@ -12,6 +12,7 @@ ghost use Rattle.residue_syntax.specs.Code.{IsBeside, KeepsLengths, GivesAny, Gi
 
 use crate::in_plane::BlockInPlane;
 use crate::sides::Sides;
+use block_geometry::TransformPlace;
 use coef_tokens::{TokenTables, tokens};
 use counting_reader::CountingReader;
 use prob_contexts::Contexts;
@@ -49,32 +50,31 @@ fn residue_of(
     Ok(true)
 }
 
-/// Reads the residue of the transform block at a row and column, in 4s, and answers whether it has any.
+/// Reads the residue of the transform block at a place, and answers whether it has any.
 #[inline(always)]
 pub(crate) fn read_residue<const COUNTS: bool>(
     reader: &mut CountingReader<COUNTS>,
     contexts: &Contexts,
     sides: &mut Sides,
     b: &BlockInPlane,
-    at: (usize, usize),
+    at: TransformPlace,
     values: &mut [i32],
 ) -> Result<bool, Rule>
-    requires y { at.0 < 16 }
-    requires x { at.1 < 16 }
-    requires beside { IsBeside b.now.block at.0 at.1 sides.old }
+    requires down { at.row < 16 }
+    requires across { at.column < 16 }
+    requires beside { IsBeside b.now.block at.row at.column sides.old }
     requires long { length values.old ≡ area b.now.block.tx }
-    ensures gives { GivesResidue (read_residue (lists_of contexts.now) b.now at.0 at.1 sides.old) reader.old result values.new sides.new reader.new }
+    ensures gives { GivesResidue (read_residue (lists_of contexts.now) b.now at.row at.column sides.old) reader.old result values.new sides.new reader.new }
     ensures lengths { KeepsLengths sides.old sides.new }
     ensures small { OnOk result (All (λ x. unsigned_abs x < 2 ^ 24) values.new) }
     ensures long { length values.new ≡ length values.old }
 {
     clear(values);
-    let (y, x) = at;
-    let kind = b.token_kind(y, x);
+    let kind = b.token_kind(at.row, at.column);
     let tables = TokenTables::new(contexts, kind);
-    let first = sides.first_context(&b.block, y, x);
+    let first = sides.first_context(&b.block, at.row, at.column);
     let count = tokens(reader, &tables, first, values);
     let some = residue_of(b, kind.kind, count, values)?;
-    sides.mark(&b.block, y, x, some);
+    sides.mark(&b.block, at.row, at.column, some);
     Ok(some)
 }

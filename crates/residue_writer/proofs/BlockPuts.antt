@@ -7,6 +7,7 @@ use Rattle.std.proofs.lemmas.List.Elements.{All-map}
 use Rattle.vp9_types.specs.declared.rule.Rule.{Rule}
 use Rattle.vp9_types.specs.declared.shape.Plane.{Plane}
 use Rattle.vp9_types.specs.declared.shape.Plane.TheVariants.{Y, U, V}
+use Rattle.block_geometry.specs.declared.transform_blocks.TransformPlace.{TransformPlace}
 use Rattle.prob_contexts.specs.ProbLists.{ContextLists}
 use Rattle.bool_encoder.specs.Part.{NumberPart}
 use Rattle.frame_headers.specs.HeaderState.{shape_of}
@@ -27,7 +28,7 @@ use Rattle.residue_writer.specs.declared.levels.PlaneLevels.{PlaneLevels}
 
 ---- A plane ----
 
-none_coded : (places : List (ℕ × ℕ)) → list_any is_coded (map (λ at. (at, None)) places) ≡ false
+none_coded : (places : List TransformPlace) → list_any is_coded (map (λ at. (at, None)) places) ≡ false
 none_coded places = list_any_none is_coded (map (λ at. (at, None)) places) (All-map (λ r. is_coded r ≡ false) (λ at. (at, None)) places (λ k d low. refl))
 
 abbrev pub PutsPlane : Header → ContextLists → BlockInfo → Plane → PlaneLevels → Sides → NumberPart → NumberPart → Type 0

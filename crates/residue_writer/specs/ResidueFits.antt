@@ -3,6 +3,8 @@ use Rattle.std.specs.Prelude.{◌≡◌, ◌<◌, ℕ, ℤ, false, List, length,
 use Rattle.vp9_types.specs.declared.shape.Plane.{Plane}
 use Rattle.vp9_types.specs.declared.shape.Plane.TheVariants.{Y, U, V}
 use Rattle.vp9_tables.specs.Scans.{area}
+use Rattle.block_geometry.specs.TransformBlocks.{place_at}
+use Rattle.block_geometry.specs.declared.transform_blocks.TransformPlace.{TransformPlace}
 use Rattle.prob_contexts.specs.ProbLists.{ContextLists}
 use Rattle.frame_headers.specs.HeaderState.{shape_of}
 use Rattle.frame_headers.specs.declared.header.Header.{Header}
@@ -17,13 +19,13 @@ use Rattle.residue_writer.specs.declared.levels.BlockLevels.{BlockLevels}
 use Rattle.residue_writer.specs.declared.levels.PlaneLevels.{PlaneLevels}
 
 -- tokens can code the levels of the transform block at a row and column
-abbrev pub CanPutAt : ContextLists → BlockInPlane → ℕ × ℕ → List ℤ → ℕ → Type 0
-CanPutAt contexts b at levels count = CanPut (block_tables contexts (token_kind b at.0 at.1)) levels count
+abbrev pub CanPutAt : ContextLists → BlockInPlane → TransformPlace → List ℤ → ℕ → Type 0
+CanPutAt contexts b at levels count = CanPut (block_tables contexts (token_kind b at.row at.column)) levels count
 
 -- and those of each of a block's transform blocks
-abbrev pub CanPutAll : ContextLists → BlockInPlane → List (ℕ × ℕ) → PlaneLevels → Type 0
+abbrev pub CanPutAll : ContextLists → BlockInPlane → List TransformPlace → PlaneLevels → Type 0
 CanPutAll contexts b places levels =
-    (k : ℕ) → k < length places → CanPutAt contexts b (get_or places k (0, 0)) (levels_at levels (area b.block.tx) k) (slice_index levels.counts k)
+    (k : ℕ) → k < length places → CanPutAt contexts b (get_or places k (place_at 0 0)) (levels_at levels (area b.block.tx) k) (slice_index levels.counts k)
 
 -- of a skipped block nothing is put
 abbrev pub CanPutIn : Header → ContextLists → BlockInfo → Plane → PlaneLevels → Type 0

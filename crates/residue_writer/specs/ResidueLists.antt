@@ -4,6 +4,7 @@ use Rattle.std.specs.Prelude.{ℕ, ◌+◌, ℤ, List, [], ◌∷◌, ◌++◌, 
 use Rattle.vp9_types.specs.declared.shape.Plane.{Plane}
 use Rattle.vp9_types.specs.declared.shape.Plane.TheVariants.{Y, U, V}
 use Rattle.vp9_tables.specs.Scans.{area}
+use Rattle.block_geometry.specs.declared.transform_blocks.TransformPlace.{TransformPlace}
 use Rattle.frame_headers.specs.HeaderState.{shape_of}
 use Rattle.frame_headers.specs.declared.header.Header.{Header}
 use Rattle.prob_contexts.specs.ProbLists.{ContextLists}
@@ -22,16 +23,16 @@ use Rattle.residue_writer.specs.declared.levels.BlockLevels.{BlockLevels}
 use Rattle.residue_writer.specs.declared.levels.PlaneLevels.{PlaneLevels}
 
 -- the transform block at a row and column, of so many coded places
-unfoldable pub spelled_at : ContextLists → BlockInPlane → ℕ × ℕ → ℕ → List ℤ → Sides → BoolList
+unfoldable pub spelled_at : ContextLists → BlockInPlane → TransformPlace → ℕ → List ℤ → Sides → BoolList
 spelled_at contexts b at count levels s =
-    spelled_levels (block_tables contexts (token_kind b at.0 at.1)) (first_context b.block at.0 at.1 s) levels count
+    spelled_levels (block_tables contexts (token_kind b at.row at.column)) (first_context b.block at.row at.column s) levels count
 
 -- the transform blocks at these places, from the k-th on, by the sides behind those before it
-unfoldable pub spelled_residues : ContextLists → BlockInPlane → PlaneLevels → List (ℕ × ℕ) → ℕ → Sides → BoolList
+unfoldable pub spelled_residues : ContextLists → BlockInPlane → PlaneLevels → List TransformPlace → ℕ → Sides → BoolList
 spelled_residues contexts b levels [] k s = []
 spelled_residues contexts b levels (at ∷ places) k s =
     spelled_at contexts b at (slice_index levels.counts k) (levels_at levels (area b.block.tx) k) s
-    ++ spelled_residues contexts b levels places (k + 1) (with_sides b.block at.0 at.1 (nat_lt 0 (slice_index levels.counts k)) s)
+    ++ spelled_residues contexts b levels places (k + 1) (with_sides b.block at.row at.column (nat_lt 0 (slice_index levels.counts k)) s)
 
 -- of a skipped block nothing is put
 unfoldable pub spelled_plane : Header → ContextLists → BlockInfo → Plane → PlaneLevels → Sides → BoolList

@@ -6,6 +6,7 @@ use Rattle.vp9_types.specs.declared.rule.Rule.{Rule}
 use Rattle.vp9_types.specs.declared.shape.Plane.{Plane}
 use Rattle.vp9_types.specs.declared.shape.Plane.TheVariants.{Y, U, V}
 use Rattle.vp9_tables.specs.Scans.{area}
+use Rattle.block_geometry.specs.declared.transform_blocks.TransformPlace.{TransformPlace}
 use Rattle.frame_headers.specs.HeaderState.{shape_of}
 use Rattle.frame_headers.specs.declared.header.Header.{Header}
 use Rattle.block_plan.specs.InPlanes.{places_in}
@@ -34,17 +35,17 @@ residue_said b y x count levels =
 ---- A block in a plane ----
 
 -- a transform block more, with its residue
-abbrev pub with_read_residue : BlockInPlane → ℕ × ℕ → ℕ → Residue → ReadPlane → ReadPlane
+abbrev pub with_read_residue : BlockInPlane → TransformPlace → ℕ → Residue → ReadPlane → ReadPlane
 with_read_residue b at count residue s = record {
   residues = s.residues ++ (at, residue) ∷ [];
-  sides = with_sides b.block at.0 at.1 (nat_lt 0 count) s.sides;
+  sides = with_sides b.block at.row at.column (nat_lt 0 count) s.sides;
 }
 
 -- the transform blocks at these places, from the k-th on, behind what was said of those before it
-unfoldable pub residues_said : BlockInPlane → PlaneLevels → List (ℕ × ℕ) → ℕ → ReadPlane → Result ReadPlane Rule
+unfoldable pub residues_said : BlockInPlane → PlaneLevels → List TransformPlace → ℕ → ReadPlane → Result ReadPlane Rule
 residues_said b levels [] k s = Ok s
 residues_said b levels (at ∷ places) k s = do
-  residue ← residue_said b at.0 at.1 (slice_index levels.counts k) (levels_at levels (area b.block.tx) k)
+  residue ← residue_said b at.row at.column (slice_index levels.counts k) (levels_at levels (area b.block.tx) k)
   residues_said b levels places (k + 1) (with_read_residue b at (slice_index levels.counts k) residue s)
 
 -- a skipped block has no coefficients, whatever its levels

@@ -37,7 +37,7 @@ pub(crate) fn put_residues(
 ) -> Result<Result<bool, Rule>, AllocError>
     requires small { IsSmallGrid grid.now }
     requires step { grid.now.step ≡ tx_step b.now.block.tx }
-    requires beside { All (λ at. IsBeside b.now.block at.0 at.1 sides.old) (grid_blocks grid.now) }
+    requires beside { All (λ at. IsBeside b.now.block at.row at.column sides.old) (grid_blocks grid.now) }
     requires can { CanPutAll (lists_of contexts.now) b.now (grid_blocks grid.now) levels.now }
     ensures puts { IfOk result (λ _. PutsTo (through (read_next (lists_of contexts.now) b.now) (grid_blocks grid.now) (record { residues = []; sides = sides.old })) encoder.old
         (residues_said b.now levels.now (grid_blocks grid.now) 0 (record { residues = []; sides = sides.old })) encoder.new) }

@@ -17,6 +17,7 @@ ghost use Rattle.residue_writer.specs.ResidueFits.{CanPutAt};
 ghost use Rattle.residue_writer.specs.Code.{TellsAny};
 
 use crate::levels::Coded;
+use block_geometry::TransformPlace;
 use bool_encoder::BoolEncoder;
 use coef_tokens::TokenTables;
 use prob_contexts::Contexts;
@@ -42,33 +43,32 @@ fn residue_said(b: &BlockInPlane, tx_type: TxType, coded: &Coded) -> Result<bool
     Ok(true)
 }
 
-/// Puts the residue of the transform block at a row and column, in 4s, and answers whether it has any, or which rule is
-/// broken by it. The sides are then of no use.
+/// Puts the residue of the transform block at a place, and answers whether it has any, or which rule is broken by it. The
+/// sides are then of no use.
 pub(crate) fn put_residue(
     encoder: &mut BoolEncoder,
     contexts: &Contexts,
     sides: &mut Sides,
     b: &BlockInPlane,
-    at: (usize, usize),
+    at: TransformPlace,
     coded: &Coded,
 ) -> Result<Result<bool, Rule>, AllocError>
-    requires y { at.0 < 16 }
-    requires x { at.1 < 16 }
-    requires beside { IsBeside b.now.block at.0 at.1 sides.old }
+    requires down { at.row < 16 }
+    requires across { at.column < 16 }
+    requires beside { IsBeside b.now.block at.row at.column sides.old }
     requires long { length coded.now.levels.now ≡ area b.now.block.tx }
     requires can { CanPutAt (lists_of contexts.now) b.now at coded.now.levels.now coded.now.count }
-    ensures puts { IfOk result (λ _. PutsTo (read_residue (lists_of contexts.now) b.now at.0 at.1 sides.old) encoder.old
-        (map_ok (λ r. (r, with_sides b.now.block at.0 at.1 (nat_lt 0 coded.now.count) sides.old)) (residue_said b.now at.0 at.1 coded.now.count coded.now.levels.now)) encoder.new) }
-    ensures tells { IfOk result (λ told. TellsAny (residue_said b.now at.0 at.1 coded.now.count coded.now.levels.now) told) }
+    ensures puts { IfOk result (λ _. PutsTo (read_residue (lists_of contexts.now) b.now at.row at.column sides.old) encoder.old
+        (map_ok (λ r. (r, with_sides b.now.block at.row at.column (nat_lt 0 coded.now.count) sides.old)) (residue_said b.now at.row at.column coded.now.count coded.now.levels.now)) encoder.new) }
+    ensures tells { IfOk result (λ told. TellsAny (residue_said b.now at.row at.column coded.now.count coded.now.levels.now) told) }
     ensures spells { IfOk result (λ _. HasPut encoder.old (spelled_at (lists_of contexts.now) b.now at coded.now.count coded.now.levels.now sides.old) encoder.new) }
-    ensures sides { IfOk result (λ _. sides.new ≡ with_sides b.now.block at.0 at.1 (nat_lt 0 coded.now.count) sides.old) }
+    ensures sides { IfOk result (λ _. sides.new ≡ with_sides b.now.block at.row at.column (nat_lt 0 coded.now.count) sides.old) }
     ensures lengths { KeepsLengths sides.old sides.new }
 {
-    let (y, x) = at;
-    let kind = b.token_kind(y, x);
+    let kind = b.token_kind(at.row, at.column);
     let tables = TokenTables::new(contexts, kind);
-    let first = sides.first_context(&b.block, y, x);
+    let first = sides.first_context(&b.block, at.row, at.column);
     put_tokens(encoder, &tables, first, coded.levels, coded.count)?;
-    sides.mark(&b.block, y, x, 0 < coded.count);
+    sides.mark(&b.block, at.row, at.column, 0 < coded.count);
     Ok(residue_said(b, kind.kind, coded))
 }

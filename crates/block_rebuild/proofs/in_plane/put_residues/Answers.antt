@@ -1,5 +1,5 @@
 use Rattle.std.proofs.Common.{◌≡◌, ◌<◌, ◌*◌, ◌∙◌, refl, arith, length}
-use Rattle.block_geometry.specs.TransformBlocks.{grid_blocks}
+use Rattle.block_geometry.specs.TransformBlocks.{grid_blocks, place_at}
 use Rattle.block_geometry.proofs.Rasters.{length_grid}
 use Rattle.vp9_tables.specs.Scans.{area}
 use Rattle.block_rebuild.specs.Residues.{first_residues}
@@ -18,7 +18,7 @@ get-residue-requires-clause-held g c =
 pub put_residue-requires-clause-inside : goal.put_residue-requires-clause-inside
 put_residue-requires-clause-inside g c =
     let low : c.loop-k.k < c.args.grid.now.rows * c.args.grid.now.columns = omega (arith, c.loop-k-test.true, c.count-k-end.ensures.count, c.loop-k.auto.k-end) in
-    let here = rw c.place.ensures.place at (c.requires.inside c.loop-k.k (0, 0) (rw (length_grid c.args.grid.now) low)) in
+    let here = rw c.place.ensures.place at (c.requires.inside c.loop-k.k (place_at 0 0) (rw (length_grid c.args.grid.now) low)) in
     rw (c.loop-k.invariant.same, c.block_at-block.ensures) here
 
 pub put_residue-requires-clause-range : goal.put_residue-requires-clause-range
@@ -36,7 +36,7 @@ loop-k-preserved g c = record {
   same = c.put_residue.ensures.area ∙ c.loop-k.invariant.same;
   range = c.put_residue.ensures.range;
   so_far = put_one_more c.args.samples.now.area c.loop-k.samples.area c.args.b.now (grid_blocks c.args.grid.now) (g.R.TransformResidues.residue c.args.residues.now c.args.b.now.plane (area c.args.b.now.tx)) c.loop-k.k
-      _ _ _ _ _ _ c.place.ensures.place (rw c.area_of-area.ensures.value at c.get-residue.ensures.value) c.loop-k.invariant.so_far c.loop-k.invariant.same
+      _ _ _ _ _ c.place.ensures.place (rw c.area_of-area.ensures.value at c.get-residue.ensures.value) c.loop-k.invariant.so_far c.loop-k.invariant.same
       (rw c.block_at-block.ensures at c.put_residue.ensures.map);
 }
 

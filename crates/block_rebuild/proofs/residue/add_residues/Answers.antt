@@ -1,5 +1,5 @@
 use Rattle.std.proofs.Common.{◌≡◌, ◌<◌, ◌*◌, ◌∙◌, refl, arith, length}
-use Rattle.block_geometry.specs.TransformBlocks.{grid_blocks}
+use Rattle.block_geometry.specs.TransformBlocks.{grid_blocks, place_at}
 use Rattle.block_geometry.proofs.Rasters.{length_grid}
 use Rattle.vp9_tables.specs.Scans.{area}
 use Rattle.block_rebuild.specs.Residues.{first_residues}
@@ -19,7 +19,7 @@ get-residue-requires-clause-held g c =
 pub add_any-requires-clause-inside : goal.add_any-requires-clause-inside
 add_any-requires-clause-inside g c =
     let low : c.loop-k.k < c.args.grid.now.rows * c.args.grid.now.columns = omega (arith, c.loop-k-test.true, c.count-k-end.ensures.count, c.loop-k.auto.k-end) in
-    rw c.loop-k.invariant.same (c.requires.inside c.loop-k.k (0, 0) (rw (length_grid c.args.grid.now) low))
+    rw c.loop-k.invariant.same (c.requires.inside c.loop-k.k (place_at 0 0) (rw (length_grid c.args.grid.now) low))
 
 pub add_any-requires-clause-small : goal.add_any-requires-clause-small
 add_any-requires-clause-small g c =

@@ -30,7 +30,7 @@ pub loop-k-preserved : goal.loop-k-preserved
 loop-k-preserved c =
     let room = room_at c.args.b.now.block.tx c.args.grid.now c.loop-k.k c.count-k-end.result c.area_of-area.result c.requires.small c.requires.step c.count-k-end.ensures.count c.area_of-area.ensures.value c.loop-k-test.true in
     let low : c.loop-k.k < length (grid_blocks c.args.grid.now) = rw (length_grid c.args.grid.now) (omega (arith, c.loop-k-test.true, c.count-k-end.ensures.count)) in record {
-      drew = drew_more c.args.b.now (grid_blocks c.args.grid.now) c.args.draws.now.x c.loop-k.k c.loop-k.levels _ _ _ _ _ _ _ c.area_of-area.ensures.value c.place.ensures.place
+      drew = drew_more c.args.b.now (grid_blocks c.args.grid.now) c.args.draws.now.x c.loop-k.k c.loop-k.levels _ _ _ _ _ _ c.area_of-area.ensures.value c.place.ensures.place
           low (omega (arith, c.loop-k-test.true, c.count-k-end.ensures.few)) room c.loop-k.invariant.drew c.draw_levels_at.ensures.drawn c.draw_levels_at.ensures.can;
     }
 

@@ -1,6 +1,6 @@
 use Rattle.std.proofs.Common.{◌≡◌, ◌<◌, ◌≤◌, ◌*◌, ◌∙◌, refl, arith, rules, length}
 use Rattle.std.proofs.lemmas.Result.{err_from_is_err_and}
-use Rattle.block_geometry.specs.TransformBlocks.{grid_blocks}
+use Rattle.block_geometry.specs.TransformBlocks.{grid_blocks, place_at}
 use Rattle.block_geometry.proofs.Rasters.{length_grid}
 use Rattle.block_plan.specs.Code.{residues_held}
 use Rattle.block_plan.proofs.Held.{one_long}
@@ -32,7 +32,7 @@ read_residue-requires g c =
         (
           c.place.ensures.near,
           (
-            beside_at _ _ _ c.args.grid.now c.loop-k.k _ _ c.requires.beside c.loop-k.invariant.lengths low c.place.ensures.place,
+            beside_at _ _ _ c.args.grid.now c.loop-k.k _ c.requires.beside c.loop-k.invariant.lengths low c.place.ensures.place,
             rw c.area_of-area.ensures.value (part_long c.loop-k.residues.values (c.loop-k.k * n) n (rw whole room)),
           ),
         ),
@@ -43,8 +43,8 @@ pub returns-in_err-some-clause-gives : goal.returns-in_err-some-clause-gives
 returns-in_err-some-clause-gives g c =
     let low : c.loop-k.k < c.args.grid.now.rows * c.args.grid.now.columns = omega (arith, c.loop-k-test.true, c.count-k-end.ensures.count, c.loop-k.auto.k-end) in
     let p = err_from_is_err_and c.from_residual.result c.from_residual.ensures.1 in
-    rw (p.1, p.2) (breaks _ _ _ _ _ _ c.loop-k.k (0, 0) _ (rw (length_grid c.args.grid.now) low) c.loop-k.invariant.reached
-    (next_broken (lists_of c.args.contexts.now) c.args.b.now _ _ _ _ _ _ _ c.place.ensures.place c.in_err-some.ensures.gives))
+    rw (p.1, p.2) (breaks _ _ _ _ _ _ c.loop-k.k (place_at 0 0) _ (rw (length_grid c.args.grid.now) low) c.loop-k.invariant.reached
+    (next_broken (lists_of c.args.contexts.now) c.args.b.now _ _ _ _ _ _ c.place.ensures.place c.in_err-some.ensures.gives))
 
 pub loop-k-preserved : goal.loop-k-preserved
 loop-k-preserved g c =
@@ -63,7 +63,7 @@ loop-k-preserved g c =
       any = rw (c.area_of-area.ensures.value, one_long) (more_coded ats n c.loop-k.residues.some c.loop-k.residues.values c.read_residue.new.values c.loop-k.any c.in_ok-some.some c.loop-k.k few before size c.loop-k.invariant.any);
       small = rw (c.area_of-area.ensures.value, one_long) (more_small ats n c.loop-k.residues.some c.loop-k.residues.values c.read_residue.new.values c.in_ok-some.some c.loop-k.k few before size c.loop-k.invariant.small c.in_ok-some.ensures.small);
       reached = rw (c.area_of-area.ensures.value, one_long) (more_read (lists_of c.args.contexts.now) c.args.b.now ats n c.loop-k.residues.some c.loop-k.residues.values c.read_residue.new.values
-          c.in_ok-some.some c.loop-k.k _ _ _ _ _ _ _ _ (rw (length_grid c.args.grid.now) low) few before size c.place.ensures.place c.loop-k.invariant.reached c.in_ok-some.ensures.gives);
+          c.in_ok-some.some c.loop-k.k _ _ _ _ _ _ _ (rw (length_grid c.args.grid.now) low) few before size c.place.ensures.place c.loop-k.invariant.reached c.in_ok-some.ensures.gives);
     }
 
 pub returns-clause-gives : goal.returns-clause-gives

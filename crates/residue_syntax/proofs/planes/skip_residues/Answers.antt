@@ -1,9 +1,10 @@
-use Rattle.std.proofs.Common.{◌≡◌, ℕ, false, refl, sym, ap, ◌∙◌, map}
+use Rattle.std.proofs.Common.{◌≡◌, false, refl, sym, ap, ◌∙◌, map}
 use Rattle.std.specs.Prelude.{None}
 use Rattle.std.proofs.lemmas.List.Folds.{list_any_none}
 use Rattle.std.proofs.lemmas.List.Elements.{All-map}
 use Rattle.vp9_tables.specs.Scans.{area}
 use Rattle.block_geometry.specs.declared.transform_blocks.PlaneBlock.{PlaneBlock}
+use Rattle.block_geometry.specs.declared.transform_blocks.TransformPlace.{TransformPlace}
 use Rattle.block_plan.proofs.Held.{held_none}
 use Rattle.block_plan.specs.Code.{IsSmall}
 use Rattle.block_plan.specs.Planned.{Residue, Residues}
@@ -11,7 +12,7 @@ use Rattle.residue_syntax.specs.Residues.{ReadPlane, read_skipped, skipped_sides
 use Rattle.residue_syntax.specs.Sides.{Sides}
 use Rattle.residue_syntax.proofs.planes.skip_residues.Goals as goal
 
-none_at : ℕ × ℕ → (ℕ × ℕ) × Residue
+none_at : TransformPlace → TransformPlace × Residue
 none_at at = (at, None)
 
 read : Residues → Sides → ReadPlane
@@ -32,4 +33,4 @@ returns-clause-none c = λ places n.
 pub returns-clause-small : goal.returns-clause-small
 returns-clause-small c = λ places n.
     rw (held_none places n c.clear_flags.new.flags c.args.residues.now.values c.clear_flags.ensures)
-    (All-map (λ (r : (ℕ × ℕ) × Residue). IsSmall r.1) (λ at. (at, None)) places (λ k d low. tt))
+    (All-map (λ (r : TransformPlace × Residue). IsSmall r.1) (λ at. (at, None)) places (λ k d low. tt))

@@ -21,8 +21,8 @@ returns-in_err-some-clause-gives g c =
     let p = err_from_is_err_and c.from_residual.result c.from_residual.ensures.1 in
     let kinds = ap (λ (k : TokenKind). k.kind) c.token_kind-kind.ensures in
     let read = rw (c.new-tables.ensures.are, c.token_kind-kind.ensures, c.first_context-first.ensures.value) at r.1 in
-    rw (p.1, p.2) (residue_broken (lists_of a.contexts.now) a.b.now a.at.0 a.at.1 a.sides.now _ _ r.0 _ read
-    (rw r.2 at (c.in_err-some.ensures.gives a.at.0 a.at.1 r.0.reads kinds r.3)))
+    rw (p.1, p.2) (residue_broken (lists_of a.contexts.now) a.b.now a.at.row a.at.column a.sides.now _ _ r.0 _ read
+    (rw r.2 at (c.in_err-some.ensures.gives a.at.row a.at.column r.0.reads kinds r.3)))
 
 pub returns-clause-gives : goal.returns-clause-gives
 returns-clause-gives g c =
@@ -30,6 +30,6 @@ returns-clause-gives g c =
     let r = c.tokens-count.ensures.read in
     let kinds = ap (λ (k : TokenKind). k.kind) c.token_kind-kind.ensures in
     let read = rw (c.new-tables.ensures.are, c.token_kind-kind.ensures, c.first_context-first.ensures.value) at r.1 in
-    let made = rw r.2 at (c.in_ok-some.ensures.gives a.at.0 a.at.1 r.0.reads kinds r.3) in
-    residue_read (lists_of a.contexts.now) a.b.now a.at.0 a.at.1 a.sides.now _ _ _ r.0 _ read made.0
-    (ap (λ (v : Bool). with_sides a.b.now.block a.at.0 a.at.1 v a.sides.now) (sym made.1) ∙ sym c.mark.ensures.value)
+    let made = rw r.2 at (c.in_ok-some.ensures.gives a.at.row a.at.column r.0.reads kinds r.3) in
+    residue_read (lists_of a.contexts.now) a.b.now a.at.row a.at.column a.sides.now _ _ _ r.0 _ read made.0
+    (ap (λ (v : Bool). with_sides a.b.now.block a.at.row a.at.column v a.sides.now) (sym made.1) ∙ sym c.mark.ensures.value)

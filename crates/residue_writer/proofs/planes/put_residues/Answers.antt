@@ -19,7 +19,7 @@ loop-k-init c = record {
 pub put_residue-requires-clause-beside : goal.put_residue-requires-clause-beside
 put_residue-requires-clause-beside c =
     let low : c.loop-k.k < c.args.grid.now.rows * c.args.grid.now.columns = omega (arith, c.loop-k-test.true, c.count-k-end.ensures.count) in
-    beside_at _ _ _ c.args.grid.now c.loop-k.k _ _ c.requires.beside c.loop-k.invariant.lengths low c.place.ensures.place
+    beside_at _ _ _ c.args.grid.now c.loop-k.k _ c.requires.beside c.loop-k.invariant.lengths low c.place.ensures.place
 
 pub put_residue-requires-clause-can : goal.put_residue-requires-clause-can
 put_residue-requires-clause-can c =
@@ -29,22 +29,22 @@ put_residue-requires-clause-can c =
 pub returns-in-Err-clause-puts : goal.returns-in-Err-clause-puts
 returns-in-Err-clause-puts c =
     let low : c.loop-k.k < length (grid_blocks c.args.grid.now) = rw (length_grid c.args.grid.now) (omega (arith, c.loop-k-test.true, c.count-k-end.ensures.count)) in
-    let put = put_at (lists_of c.args.contexts.now) c.args.b.now c.args.levels.now _ c.loop-k.k _ _ _ _ _ _ c.area_of-area.ensures.value c.place.ensures.place c.in_ok-some.ensures.puts in
-    let told = told_at c.args.b.now c.args.levels.now _ c.loop-k.k _ _ _ (Err c.in-Err.rule) c.area_of-area.ensures.value c.place.ensures.place (rw c.in-Err.is at c.in_ok-some.ensures.tells) in
+    let put = put_at (lists_of c.args.contexts.now) c.args.b.now c.args.levels.now _ _ c.loop-k.k _ _ _ _ c.area_of-area.ensures.value c.place.ensures.place c.in_ok-some.ensures.puts in
+    let told = told_at c.args.b.now c.args.levels.now _ _ c.loop-k.k _ (Err c.in-Err.rule) c.area_of-area.ensures.value c.place.ensures.place (rw c.in-Err.is at c.in_ok-some.ensures.tells) in
     (breaks_here (lists_of c.args.contexts.now) c.args.b.now c.args.levels.now (grid_blocks c.args.grid.now) c.args.sides.now _ _ _ _ c.loop-k.k c.loop-k.any c.in-Err.rule low c.loop-k.invariant.passes put told).0
 
 pub returns-in-Err-clause-tells : goal.returns-in-Err-clause-tells
 returns-in-Err-clause-tells c =
     let low : c.loop-k.k < length (grid_blocks c.args.grid.now) = rw (length_grid c.args.grid.now) (omega (arith, c.loop-k-test.true, c.count-k-end.ensures.count)) in
-    let put = put_at (lists_of c.args.contexts.now) c.args.b.now c.args.levels.now _ c.loop-k.k _ _ _ _ _ _ c.area_of-area.ensures.value c.place.ensures.place c.in_ok-some.ensures.puts in
-    let told = told_at c.args.b.now c.args.levels.now _ c.loop-k.k _ _ _ (Err c.in-Err.rule) c.area_of-area.ensures.value c.place.ensures.place (rw c.in-Err.is at c.in_ok-some.ensures.tells) in
+    let put = put_at (lists_of c.args.contexts.now) c.args.b.now c.args.levels.now _ _ c.loop-k.k _ _ _ _ c.area_of-area.ensures.value c.place.ensures.place c.in_ok-some.ensures.puts in
+    let told = told_at c.args.b.now c.args.levels.now _ _ c.loop-k.k _ (Err c.in-Err.rule) c.area_of-area.ensures.value c.place.ensures.place (rw c.in-Err.is at c.in_ok-some.ensures.tells) in
     (breaks_here (lists_of c.args.contexts.now) c.args.b.now c.args.levels.now (grid_blocks c.args.grid.now) c.args.sides.now _ _ _ _ c.loop-k.k c.loop-k.any c.in-Err.rule low c.loop-k.invariant.passes put told).1
 
 pub loop-k-preserved : goal.loop-k-preserved
 loop-k-preserved c =
     let low : c.loop-k.k < length (grid_blocks c.args.grid.now) = rw (length_grid c.args.grid.now) (omega (arith, c.loop-k-test.true, c.count-k-end.ensures.count)) in
-    let put = put_at (lists_of c.args.contexts.now) c.args.b.now c.args.levels.now _ c.loop-k.k _ _ _ _ _ _ c.area_of-area.ensures.value c.place.ensures.place c.in_ok-some.ensures.puts in
-    let told = told_at c.args.b.now c.args.levels.now _ c.loop-k.k _ _ _ (Ok c.in-Ok.some) c.area_of-area.ensures.value c.place.ensures.place (rw c.in-Ok.is at c.in_ok-some.ensures.tells) in record {
+    let put = put_at (lists_of c.args.contexts.now) c.args.b.now c.args.levels.now _ _ c.loop-k.k _ _ _ _ c.area_of-area.ensures.value c.place.ensures.place c.in_ok-some.ensures.puts in
+    let told = told_at c.args.b.now c.args.levels.now _ _ c.loop-k.k _ (Ok c.in-Ok.some) c.area_of-area.ensures.value c.place.ensures.place (rw c.in-Ok.is at c.in_ok-some.ensures.tells) in record {
       lengths = record { above = c.in_ok-some.ensures.lengths.above ∙ c.loop-k.invariant.lengths.above; left = c.in_ok-some.ensures.lengths.left ∙ c.loop-k.invariant.lengths.left };
       passes = passes_on (lists_of c.args.contexts.now) c.args.b.now c.args.levels.now (grid_blocks c.args.grid.now) c.args.sides.now _ _ _ _ _ c.loop-k.k c.loop-k.any c.in-Ok.some low c.loop-k.invariant.passes put told (rw c.place.ensures.place c.in_ok-some.ensures.sides);
       spells = spells_go (lists_of c.args.contexts.now) c.args.b.now c.args.levels.now (grid_blocks c.args.grid.now) c.args.sides.now _ _ _ _ _ c.loop-k.k low c.loop-k.invariant.spells

@@ -16,15 +16,15 @@ residue_said-requires-clause-coded c = c.requires.can.coded
 pub returns-clause-puts : goal.returns-clause-puts
 returns-clause-puts c =
     let a = c.args in
-    residue_put (lists_of a.contexts.now) a.b.now a.at.0 a.at.1 a.coded.now.count a.coded.now.levels.now a.sides.now _ _ c.requires.long
+    residue_put (lists_of a.contexts.now) a.b.now a.at.row a.at.column a.coded.now.count a.coded.now.levels.now a.sides.now _ _ c.requires.long
     (rw (c.new-tables.ensures.are, c.token_kind-kind.ensures, c.first_context-first.ensures.value) at c.in_ok-put_tokens.ensures)
 
 pub returns-clause-tells : goal.returns-clause-tells
-returns-clause-tells c = c.residue_said.ensures c.args.at.0 c.args.at.1 (ap (λ (k : TokenKind). k.kind) c.token_kind-kind.ensures)
+returns-clause-tells c = c.residue_said.ensures c.args.at.row c.args.at.column (ap (λ (k : TokenKind). k.kind) c.token_kind-kind.ensures)
 
 pub returns-clause-spells : goal.returns-clause-spells
 unfolding spelled_at
 returns-clause-spells c =
     let a = c.args in
-    kinds_way (lists_of a.contexts.now) (token_kind a.b.now a.at.0 a.at.1) (first_context a.b.now.block a.at.0 a.at.1 a.sides.now) a.coded.now.levels.now a.coded.now.count _ _
+    kinds_way (lists_of a.contexts.now) (token_kind a.b.now a.at.row a.at.column) (first_context a.b.now.block a.at.row a.at.column a.sides.now) a.coded.now.levels.now a.coded.now.count _ _
     (rw (c.new-tables.ensures.are, c.token_kind-kind.ensures, c.first_context-first.ensures.value) at c.in_ok-put_tokens.ensures)
