@@ -1,7 +1,7 @@
 -- Which jobs are finished, as the crew has it: the world of jobs that its events have led to, and how a run ends in it.
-use Rattle.std.specs.Prelude.{◌≡◌, ◌↔◌, ℕ, ◌+◌, ◌≤◌, Bool, true, false, List, [], ◌∷◌, length, take, Option, Some, slice_get}
+use Rattle.std.specs.Prelude.{◌≡◌, ◌↔◌, ◌⊎◌, ℕ, ◌+◌, ◌≤◌, Bool, true, false, List, [], ◌∷◌, length, take, Option, Some, None, slice_get}
 use Rattle.vp9_types.specs.declared.job.JobName.{JobName}
-use Rattle.vp9_types.specs.declared.job.JobName.TheVariants.{Rows, Filter, Write, End}
+use Rattle.vp9_types.specs.declared.job.JobName.TheVariants.{Head, Close, Rows, Filter, Write, End}
 use Rattle.vp9_types.specs.declared.job.BandSpan.{BandSpan}
 use Rattle.job_order.specs.declared.segment.Segment.{Segment}
 use Rattle.job_order.specs.declared.event.Done.{Done}
@@ -78,6 +78,10 @@ EndsIn w (Refused f x) = HasResult w.finished (Write f) x
 -- and so it is with as many frames at once as the run may have.
 abbrev pub HasHappened : {X : Type 0} → Rules X → JobName → X → Type 0
 HasHappened {X} m job x = (window : ℕ) × IsLogged m window job x
+
+-- The frame's head or its close has happened with this result, which says that the run ends there.
+abbrev pub HasEndedBy : {X : Type 0} → Rules X → ℕ → X → Type 0
+HasEndedBy m f x = (HasHappened m (Head f) x × (m.parses x ≡ None)) ⊎ (HasHappened m (Close f) x × (m.builds x ≡ None))
 
 -- Events that were allowed one after another lead to a world in which the run has ended so.
 abbrev pub HasEvents : {X : Type 0} → Rules X → ℕ → Ending X → Type 0

@@ -5,6 +5,7 @@ ghost use Rattle.job_order.specs.Needs.{HasBand};
 ghost use Rattle.job_order.specs.declared.event.Done.{Done};
 ghost use Rattle.edge_io.specs.Putting.{Takes};
 ghost use Rattle.job_crew.specs.Runs.{IsDue, IsNoWrite, GoesOn, IsLast};
+ghost use Rattle.job_crew.specs.Events.{HasHappened, HasEndedBy};
 
 use job_order::{Meaning, Shown};
 use std::marker::Brand;
@@ -69,6 +70,7 @@ pub trait Results<X, M: Meaning<X>> {
     /// close has built one.
     fn result(&self, job: JobName) -> &X
         ensures right { M.truth.right job result.now }
+        ensures event { HasHappened M.rules job result.now }
         ensures goes_on { GoesOn M.rules job result.now };
 }
 
@@ -76,7 +78,8 @@ pub trait Results<X, M: Meaning<X>> {
 pub trait LastResult<X, M: Meaning<X>> {
     /// The one that says that the run ends at this frame, of its head or its close.
     fn last(&self, frame: u64) -> &X
-        ensures { IsLast M.rules M.truth frame result.now };
+        ensures last { IsLast M.rules M.truth frame result.now }
+        ensures event { HasEndedBy M.rules frame result.now };
 }
 
 /// Who does the jobs. No call waits for another job.

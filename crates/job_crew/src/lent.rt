@@ -1,6 +1,6 @@
 ghost use Rattle.std.specs.Prelude.{◌≡◌, true, IfSome};
 ghost use Rattle.job_crew.specs.Runs.{GoesOn, IsLast};
-ghost use Rattle.job_crew.specs.Events.{HasHappened};
+ghost use Rattle.job_crew.specs.Events.{HasHappened, HasEndedBy};
 
 use crate::cells::Cell;
 use crate::jobs::{Jobs, LastResult, Output, Results};
@@ -50,7 +50,8 @@ impl<'r, 'c, 'f, X: Drop, M: Meaning<X>, K: Output<X>, J: Jobs<X, M, K>, R> Lent
 
     // The close's result by which the run ends, or the head's, which no frame has.
     fn find_last(&self, frame: u64) -> Option<&X>
-        ensures { IfSome result (λ x. IsLast M.rules M.truth frame x.now) }
+        ensures last { IfSome result (λ x. IsLast M.rules M.truth frame x.now) }
+        ensures event { IfSome result (λ x. HasEndedBy M.rules frame x.now) }
     {
         if let Some(lent) = self.at_work
             && let Some(close) = lent.frame().find(JobName::Close { frame })

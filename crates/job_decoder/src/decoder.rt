@@ -17,7 +17,9 @@ use edge_io::Sink;
 use job_crew::{Building, FrameResults, Jobs, LIVE, LastResult, Layout, Results};
 use job_heads::{FrameList, do_close, do_column, do_head};
 use job_order::Shown;
-use job_rows::job_results::{ClosedFrame, Decode, DecodeRun, Group, JobResult, closed, ended};
+use job_rows::job_results::{
+    ClosedFrame, Decode, DecodeRun, Group, JobResult, Lookup, closed, ended,
+};
 use job_rows::{do_filter, do_rows};
 use std::alloc::{AllocError, Global};
 use std::marker::Model;
@@ -136,7 +138,7 @@ impl<'j, 'a, B: DecodeRun, T> JobDecoder<'j, 'a, B, T> {
     }
 
     /// Does a job of the film that is no write and no end.
-    fn run_named<R: Results<JobResult<'a>, Decode<B>>>(
+    fn run_named<R: Lookup<JobResult<'a>, Decode<B>>>(
         &self,
         job: JobName,
         results: &R,

@@ -9,7 +9,7 @@ ghost use Rattle.job_rows.specs.job_results.JobResults.{IsRight};
 
 use crate::kept_frames::{KeptFrames, Shared};
 use job_crew::{Results, frame_of};
-use job_rows::job_results::{Decode, DecodeRun, Group, JobResult};
+use job_rows::job_results::{Decode, DecodeRun, Group, JobResult, Lookup};
 use std::marker::Model;
 use std::sync::{Arc, Mutex, OnceLock, Wait};
 use std::thread;
@@ -92,7 +92,7 @@ impl<'r, 'a: 'r, B: DecodeRun, R, T: Wait> FilmResults<'r, 'a, B, R, T> {
     }
 }
 
-impl<'r, 'a: 'r, B: DecodeRun, R: Results<JobResult<'a>, Group<B>>, T: Wait> Results<
+impl<'r, 'a: 'r, B: DecodeRun, R: Results<JobResult<'a>, Group<B>>, T: Wait> Lookup<
     JobResult<'a>,
     Decode<B>,
 > for FilmResults<'r, 'a, B, R, T> {

@@ -10,16 +10,15 @@ ghost use Rattle.job_rows.specs.job_results.JobResults.{IsShown};
 
 use edge_io::{PutFault, Sink};
 use frame_output::render_as;
-use job_crew::Results;
 use job_rows::filtered_rows::FilteredFrame;
-use job_rows::job_results::{Decode, DecodeRun, JobResult, ShownFrame, closed};
+use job_rows::job_results::{Decode, DecodeRun, JobResult, Lookup, ShownFrame, closed};
 use job_rows::seq_decoder::{LEAST_BUFFER, OutputForm, lengthen};
 use job_rows::{PlaneSample, rows_of};
 use std::alloc::Global;
 use vp9_types::{Depth, Sample};
 
 /// Writes a frame whose samples are kept so, by a room for its text that is used again.
-fn write_shown<'a, P: PlaneSample, B: DecodeRun, K: Sink, R: Results<JobResult<'a>, Decode<B>>>(
+fn write_shown<'a, P: PlaneSample, B: DecodeRun, K: Sink, R: Lookup<JobResult<'a>, Decode<B>>>(
     alloc: Global,
     results: &R,
     form: &OutputForm,
@@ -54,7 +53,7 @@ fn write_shown<'a, P: PlaneSample, B: DecodeRun, K: Sink, R: Results<JobResult<'
 }
 
 /// Writes what a frame shows, if it shows something.
-pub fn write<'a, B: DecodeRun, K: Sink, R: Results<JobResult<'a>, Decode<B>>>(
+pub fn write<'a, B: DecodeRun, K: Sink, R: Lookup<JobResult<'a>, Decode<B>>>(
     alloc: Global,
     number: u64,
     results: &R,

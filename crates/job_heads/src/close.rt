@@ -12,13 +12,12 @@ ghost use Rattle.job_results.specs.JobResults.{IsClose, ShowsSlot};
 use crate::frames::FrameList;
 use crate::reads::row_reads;
 use frame_headers::Header;
-use job_crew::Results;
 use job_results::frame_steps::{BegunFrame, Kept, PlannedColumn, PlannedColumns, close, keep};
 use job_results::seq_decoder::{OutputForm, halt_outcome, outcome_at};
 use job_results::tile_syntax::Unplanned;
 use job_results::{
-    ClosedFrame, Decode, DecodeRun, HeadRead, JobResult, RowReads, ShownFrame, closed, column,
-    head_read,
+    ClosedFrame, Decode, DecodeRun, HeadRead, JobResult, Lookup, RowReads, ShownFrame, closed,
+    column, head_read,
 };
 use std::alloc::Global;
 use std::marker::PhantomData;
@@ -26,7 +25,7 @@ use vp9_types::{Outcome, Rule, Shape};
 
 /// The tile columns of a frame, as the results of their jobs.
 #[derive(Drop)]
-struct LentColumns<'r, 'a: 'r, B: DecodeRun, R: Results<JobResult<'a>, Decode<B>>> {
+struct LentColumns<'r, 'a: 'r, B: DecodeRun, R: Lookup<JobResult<'a>, Decode<B>>> {
     results: &'r R,
     number: u64,
     frame: &'r BegunFrame<'a>,
@@ -34,7 +33,7 @@ struct LentColumns<'r, 'a: 'r, B: DecodeRun, R: Results<JobResult<'a>, Decode<B>
     ghost is_begun: { IsItsBegun B.format B.film number frame.now },
 }
 
-impl<'r, 'a: 'r, B: DecodeRun, R: Results<JobResult<'a>, Decode<B>>> PlannedColumns
+impl<'r, 'a: 'r, B: DecodeRun, R: Lookup<JobResult<'a>, Decode<B>>> PlannedColumns
     for LentColumns<'r, 'a, B, R> {
     ghost frame = { λ c. c.frame.now };
 
@@ -199,7 +198,7 @@ fn close_coded<'a, B: DecodeRun, C: PlannedColumns>(
 }
 
 /// Closes a frame behind what is kept of the frames before it.
-fn close_behind<'r, 'a: 'r, B: DecodeRun, R: Results<JobResult<'a>, Decode<B>>>(
+fn close_behind<'r, 'a: 'r, B: DecodeRun, R: Lookup<JobResult<'a>, Decode<B>>>(
     alloc: Global,
     number: u64,
     results: &'r R,
@@ -223,7 +222,7 @@ fn close_behind<'r, 'a: 'r, B: DecodeRun, R: Results<JobResult<'a>, Decode<B>>>(
 }
 
 /// Closes the first frame.
-fn close_first<'a, B: DecodeRun, R: Results<JobResult<'a>, Decode<B>>>(
+fn close_first<'a, B: DecodeRun, R: Lookup<JobResult<'a>, Decode<B>>>(
     alloc: Global,
     list: &FrameList<'a, B>,
     results: &R,
@@ -238,7 +237,7 @@ fn close_first<'a, B: DecodeRun, R: Results<JobResult<'a>, Decode<B>>>(
 }
 
 /// The close of a frame: what is kept behind it and what it shows, or the end of the run, if it breaks a rule.
-pub fn do_close<'a, B: DecodeRun, R: Results<JobResult<'a>, Decode<B>>>(
+pub fn do_close<'a, B: DecodeRun, R: Lookup<JobResult<'a>, Decode<B>>>(
     alloc: Global,
     list: &FrameList<'a, B>,
     number: u64,

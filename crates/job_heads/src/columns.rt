@@ -6,14 +6,13 @@ ghost use Rattle.job_results.specs.Meaning.{decode_rules, decode_truth};
 ghost use Rattle.job_results.specs.Lent.{IsColumnOf};
 ghost use Rattle.job_results.specs.JobResults.{IsColumn};
 
-use job_crew::Results;
 use job_results::frame_steps::{PlannedColumn, plan_column};
 use job_results::tile_syntax::Unplanned;
-use job_results::{Decode, DecodeRun, JobResult, begun};
+use job_results::{Decode, DecodeRun, JobResult, Lookup, begun};
 use std::alloc::Global;
 
 /// The plan of a tile column of a frame that has begun, or why there is none.
-fn planned<'a, B: DecodeRun, R: Results<JobResult<'a>, Decode<B>>>(
+fn planned<'a, B: DecodeRun, R: Lookup<JobResult<'a>, Decode<B>>>(
     alloc: Global,
     frame: u64,
     column: u32,
@@ -27,7 +26,7 @@ fn planned<'a, B: DecodeRun, R: Results<JobResult<'a>, Decode<B>>>(
 }
 
 /// A tile column: its plan, or why there is none.
-pub fn do_column<'a, B: DecodeRun, R: Results<JobResult<'a>, Decode<B>>>(
+pub fn do_column<'a, B: DecodeRun, R: Lookup<JobResult<'a>, Decode<B>>>(
     alloc: Global,
     frame: u64,
     column: u32,

@@ -15,10 +15,9 @@ ghost use Rattle.job_results.specs.JobResults.{IsHead};
 
 use crate::frames::FrameList;
 use frame_headers::{FrameHead, Header, read};
-use job_crew::Results;
 use job_results::frame_steps::{Kept, begin};
 use job_results::seq_decoder::{halt_outcome, outcome_at};
-use job_results::{Decode, DecodeRun, JobResult, closed};
+use job_results::{Decode, DecodeRun, JobResult, Lookup, closed};
 use std::alloc::Global;
 use vp9_types::{Outcome, Span};
 
@@ -86,7 +85,7 @@ fn read_first<'a, B: DecodeRun>(alloc: Global, list: &FrameList<'a, B>) -> JobRe
 
 /// The head of a frame: the end of the run, if there is no frame, or it breaks a rule before its tiles; what a coded frame begins
 /// with, or the slot that is shown.
-pub fn do_head<'a, B: DecodeRun, R: Results<JobResult<'a>, Decode<B>>>(
+pub fn do_head<'a, B: DecodeRun, R: Lookup<JobResult<'a>, Decode<B>>>(
     alloc: Global,
     list: &FrameList<'a, B>,
     number: u64,

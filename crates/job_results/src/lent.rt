@@ -6,11 +6,12 @@ ghost use Rattle.job_results.specs.JobResults.{IsClosedAs, IsEnd};
 ghost use Rattle.job_results.specs.Lent.{IsBegunFrame, IsColumnOf, IsFilteredOf, IsHeadRead, IsStripOf};
 
 use crate::any_planes::AnyPlanes;
+use crate::lookup::Lookup;
 use crate::meaning::{Decode, DecodeRun, Group};
 use crate::result::{ClosedFrame, JobResult};
 use frame_steps::tile_syntax::Unplanned;
 use frame_steps::{BegunFrame, PlannedColumn};
-use job_crew::{LastResult, Results};
+use job_crew::LastResult;
 use vp9_types::{JobName, Outcome};
 
 /// What a head has read: a coded frame, or one that shows what a slot holds.
@@ -21,7 +22,7 @@ pub enum HeadRead<'r, 'a> {
 }
 
 /// What the head of a frame has read, by which the run goes on.
-pub fn head_read<'r, 'a: 'r, B: DecodeRun, R: Results<JobResult<'a>, Decode<B>>>(
+pub fn head_read<'r, 'a: 'r, B: DecodeRun, R: Lookup<JobResult<'a>, Decode<B>>>(
     results: &'r R,
     frame: u64,
 ) -> HeadRead<'r, 'a>
@@ -35,7 +36,7 @@ pub fn head_read<'r, 'a: 'r, B: DecodeRun, R: Results<JobResult<'a>, Decode<B>>>
 }
 
 /// A coded frame as it has begun.
-pub fn begun<'r, 'a: 'r, B: DecodeRun, R: Results<JobResult<'a>, Decode<B>>>(
+pub fn begun<'r, 'a: 'r, B: DecodeRun, R: Lookup<JobResult<'a>, Decode<B>>>(
     results: &'r R,
     frame: u64,
 ) -> &'r BegunFrame<'a>
@@ -49,7 +50,7 @@ pub fn begun<'r, 'a: 'r, B: DecodeRun, R: Results<JobResult<'a>, Decode<B>>>(
 }
 
 /// What a tile column came to.
-pub fn column<'r, 'a: 'r, B: DecodeRun, R: Results<JobResult<'a>, Decode<B>>>(
+pub fn column<'r, 'a: 'r, B: DecodeRun, R: Lookup<JobResult<'a>, Decode<B>>>(
     results: &'r R,
     frame: u64,
     column: u32,
@@ -63,7 +64,7 @@ pub fn column<'r, 'a: 'r, B: DecodeRun, R: Results<JobResult<'a>, Decode<B>>>(
 }
 
 /// A frame whose tile columns are joined, by which the run goes on.
-pub fn closed<'r, 'a: 'r, B: DecodeRun, R: Results<JobResult<'a>, Decode<B>>>(
+pub fn closed<'r, 'a: 'r, B: DecodeRun, R: Lookup<JobResult<'a>, Decode<B>>>(
     results: &'r R,
     frame: u64,
 ) -> &'r ClosedFrame
@@ -76,7 +77,7 @@ pub fn closed<'r, 'a: 'r, B: DecodeRun, R: Results<JobResult<'a>, Decode<B>>>(
 }
 
 /// A row of superblocks of a tile column, unless there was no memory for it.
-pub fn strip<'r, 'a: 'r, B: DecodeRun, R: Results<JobResult<'a>, Decode<B>>>(
+pub fn strip<'r, 'a: 'r, B: DecodeRun, R: Lookup<JobResult<'a>, Decode<B>>>(
     results: &'r R,
     frame: u64,
     column: u32,
@@ -92,7 +93,7 @@ pub fn strip<'r, 'a: 'r, B: DecodeRun, R: Results<JobResult<'a>, Decode<B>>>(
 }
 
 /// What a row of superblocks leaves when it is filtered, unless there was no memory for it.
-pub fn filtered<'r, 'a: 'r, B: DecodeRun, R: Results<JobResult<'a>, Decode<B>>>(
+pub fn filtered<'r, 'a: 'r, B: DecodeRun, R: Lookup<JobResult<'a>, Decode<B>>>(
     results: &'r R,
     frame: u64,
     row: u32,

@@ -4,6 +4,7 @@
 mod any_planes;
 mod laws;
 mod lent;
+mod lookup;
 mod meaning;
 mod reads;
 mod result;
@@ -16,6 +17,7 @@ pub use laws::{
     rules_of_groups_are_true,
 };
 pub use lent::{HeadRead, begun, closed, column, ended, filtered, head_read, strip};
+pub use lookup::Lookup;
 pub use meaning::{Decode, DecodeRun, Group};
 pub use numbered_frames::{frame_state, seq_decoder};
 pub use reads::RowReads;

@@ -27,10 +27,9 @@ use column_strips::{LentStrips, RawFrame};
 use filter_rows::filter_next_row;
 use filtered_rows::next_buffer;
 use frame_headers::Header;
-use job_crew::Results;
 use job_results::frame_state::FrameBlocks;
 use job_results::seq_decoder::LastFrame;
-use job_results::{AnyPlanes, Decode, DecodeRun, JobResult, begun, closed};
+use job_results::{AnyPlanes, Decode, DecodeRun, JobResult, Lookup, begun, closed};
 use line_filter::EdgeSample;
 use loop_edges::EdgeSetting;
 use planes::FramePlanes;
@@ -39,7 +38,7 @@ use std::marker::Brand;
 use vp9_types::Depth;
 
 /// The strips of all tile columns in a row of superblocks.
-fn strips_of<'r, 'a: 'r, P: PlaneSample, B: DecodeRun, R: Results<JobResult<'a>, Decode<B>>>(
+fn strips_of<'r, 'a: 'r, P: PlaneSample, B: DecodeRun, R: Lookup<JobResult<'a>, Decode<B>>>(
     alloc: Global,
     results: &'r R,
     frame: u64,
@@ -57,7 +56,7 @@ fn strips_of<'r, 'a: 'r, P: PlaneSample, B: DecodeRun, R: Results<JobResult<'a>,
 }
 
 /// What the row above leaves, if there is one.
-fn filtered_above<'r, 'a: 'r, P: PlaneSample, B: DecodeRun, R: Results<JobResult<'a>, Decode<B>>>(
+fn filtered_above<'r, 'a: 'r, P: PlaneSample, B: DecodeRun, R: Lookup<JobResult<'a>, Decode<B>>>(
     results: &'r R,
     frame: u64,
     row: u32,
@@ -117,7 +116,7 @@ fn filtered_of<P: PlaneSample + EdgeSample, F: RawFrame>(
 }
 
 /// A filtered row of superblocks, in planes that keep samples so.
-fn filtered_as<'a, P: PlaneSample + EdgeSample, B: DecodeRun, R: Results<JobResult<'a>, Decode<B>>>(
+fn filtered_as<'a, P: PlaneSample + EdgeSample, B: DecodeRun, R: Lookup<JobResult<'a>, Decode<B>>>(
     alloc: Global,
     frame: u64,
     row: u32,
@@ -165,7 +164,7 @@ fn filtered_in_words<'a>(rows: Result<FramePlanes<u16>, AllocError>) -> JobResul
 }
 
 /// A row of superblocks of a frame, filtered: its samples, and those above that it changes.
-pub fn do_filter<'a, B: DecodeRun, R: Results<JobResult<'a>, Decode<B>>>(
+pub fn do_filter<'a, B: DecodeRun, R: Lookup<JobResult<'a>, Decode<B>>>(
     alloc: Global,
     frame: u64,
     row: u32,

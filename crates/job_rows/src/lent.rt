@@ -10,14 +10,13 @@ ghost use Rattle.job_results.specs.JobResults.{IsFilteredAs, IsStripAs};
 ghost use Rattle.job_rows.specs.LentRows.{IsOfDepth, OfFrame};
 
 use crate::sample::PlaneSample;
-use job_crew::Results;
-use job_results::{Decode, DecodeRun, JobResult, begun, filtered, strip};
+use job_results::{Decode, DecodeRun, JobResult, Lookup, begun, filtered, strip};
 use planes::FramePlanes;
 use std::alloc::{AllocError, Global};
 use vp9_types::Depth;
 
 /// The depth of a coded frame.
-pub(crate) fn depth_of<'a, B: DecodeRun, R: Results<JobResult<'a>, Decode<B>>>(
+pub(crate) fn depth_of<'a, B: DecodeRun, R: Lookup<JobResult<'a>, Decode<B>>>(
     results: &R,
     frame: u64,
 ) -> Depth
@@ -33,7 +32,7 @@ pub(crate) fn strip_planes<
     'a: 'r,
     P: PlaneSample,
     B: DecodeRun,
-    R: Results<JobResult<'a>, Decode<B>>,
+    R: Lookup<JobResult<'a>, Decode<B>>,
 >(results: &'r R, frame: u64, column: u32, row: u32) -> Result<&'r FramePlanes<P>, AllocError>
     requires { IsOfDepth P.keeps B.format B.film frame }
     ensures { IfOk result (λ f. OfFrame B.format B.film frame (λ c. IsStripAs c column row f.now)) }
@@ -53,7 +52,7 @@ pub(crate) fn filtered_planes<
     'a: 'r,
     P: PlaneSample,
     B: DecodeRun,
-    R: Results<JobResult<'a>, Decode<B>>,
+    R: Lookup<JobResult<'a>, Decode<B>>,
 >(results: &'r R, frame: u64, row: u32) -> Result<&'r FramePlanes<P>, AllocError>
     requires { IsOfDepth P.keeps B.format B.film frame }
     ensures { IfOk result (λ f. OfFrame B.format B.film frame (λ c. IsFilteredAs c row f.now)) }
@@ -68,7 +67,7 @@ pub(crate) fn filtered_planes<
 }
 
 /// The rows of superblocks of a frame from `first` up to `end`, as they are filtered.
-pub fn rows_of<'r, 'a: 'r, P: PlaneSample, B: DecodeRun, R: Results<JobResult<'a>, Decode<B>>>(
+pub fn rows_of<'r, 'a: 'r, P: PlaneSample, B: DecodeRun, R: Lookup<JobResult<'a>, Decode<B>>>(
     alloc: Global,
     results: &'r R,
     frame: u64,

@@ -13,8 +13,7 @@ use crate::sample::PlaneSample;
 use band_needs::BandRange;
 use filtered_rows::FilteredFrame;
 use frame_headers::Reference;
-use job_crew::Results;
-use job_results::{Decode, DecodeRun, JobResult, closed};
+use job_results::{Decode, DecodeRun, JobResult, Lookup, closed};
 use planes::FramePlanes;
 use std::alloc::{AllocError, Global};
 use vp9_types::{Sample, Shape};
@@ -40,7 +39,7 @@ fn number_in(slots: &[Option<u64>; 8], slot: u8) -> Option<u64>
 }
 
 /// The number of the frame that a reference of a frame is.
-pub(crate) fn number_of<'a, B: DecodeRun, R: Results<JobResult<'a>, Decode<B>>>(
+pub(crate) fn number_of<'a, B: DecodeRun, R: Lookup<JobResult<'a>, Decode<B>>>(
     results: &R,
     frame: u64,
     reference: &Reference,
@@ -74,7 +73,7 @@ pub(crate) fn reference_rows<
     'a: 'r,
     P: PlaneSample,
     B: DecodeRun,
-    R: Results<JobResult<'a>, Decode<B>>,
+    R: Lookup<JobResult<'a>, Decode<B>>,
 >(
     alloc: Global,
     results: &'r R,

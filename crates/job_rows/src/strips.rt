@@ -24,17 +24,16 @@ use block_rebuild::{Rebuilding, ReferencePicture, RoomSample};
 use filtered_rows::FilteredFrame;
 use frame_headers::{FrameKind, InterFields};
 use frame_setting::FrameSetting;
-use job_crew::Results;
 use job_results::frame_steps::{PlannedColumn, PlannedRow, put_strip};
 use job_results::tile_syntax::{ColumnPlan, Unplanned};
-use job_results::{AnyPlanes, Decode, DecodeRun, JobResult, begun, column};
+use job_results::{AnyPlanes, Decode, DecodeRun, JobResult, Lookup, begun, column};
 use planes::FramePlanes;
 use std::alloc::{AllocError, Global};
 use vp9_types::{Depth, Sample, Shape};
 
 /// The plan of a tile column of a frame whose tiles are all read, which has this row of superblocks. There is none where memory was wanting for
 /// it.
-pub(crate) fn planned<'r, 'a: 'r, B: DecodeRun, R: Results<JobResult<'a>, Decode<B>>>(
+pub(crate) fn planned<'r, 'a: 'r, B: DecodeRun, R: Lookup<JobResult<'a>, Decode<B>>>(
     results: &'r R,
     frame: u64,
     k: u32,
@@ -53,7 +52,7 @@ pub(crate) fn planned<'r, 'a: 'r, B: DecodeRun, R: Results<JobResult<'a>, Decode
 }
 
 /// The strip above a row, if there is one.
-fn strip_above<'r, 'a: 'r, P: PlaneSample, B: DecodeRun, R: Results<JobResult<'a>, Decode<B>>>(
+fn strip_above<'r, 'a: 'r, P: PlaneSample, B: DecodeRun, R: Lookup<JobResult<'a>, Decode<B>>>(
     results: &'r R,
     frame: u64,
     k: u32,
@@ -96,7 +95,7 @@ pub(crate) struct AllRows<'r, P: Sample> {
 }
 
 /// These rows, of a frame that names them.
-fn all_rows<'r, 'a: 'r, P: PlaneSample, B: DecodeRun, R: Results<JobResult<'a>, Decode<B>>>(
+fn all_rows<'r, 'a: 'r, P: PlaneSample, B: DecodeRun, R: Lookup<JobResult<'a>, Decode<B>>>(
     alloc: Global,
     results: &'r R,
     frame: u64,
@@ -172,7 +171,7 @@ fn planned_row<'p>(
 }
 
 /// A row of superblocks of a tile column, in planes that keep samples so.
-fn strip_as<'a, P: PlaneSample + RoomSample, B: DecodeRun, R: Results<JobResult<'a>, Decode<B>>>(
+fn strip_as<'a, P: PlaneSample + RoomSample, B: DecodeRun, R: Lookup<JobResult<'a>, Decode<B>>>(
     alloc: Global,
     frame: u64,
     k: u32,
@@ -221,7 +220,7 @@ fn strip_in_words<'a>(strip: Result<FramePlanes<u16>, AllocError>) -> JobResult<
 }
 
 /// A row of superblocks of a tile column: its samples before the loop filter.
-pub fn do_rows<'a, B: DecodeRun, R: Results<JobResult<'a>, Decode<B>>>(
+pub fn do_rows<'a, B: DecodeRun, R: Lookup<JobResult<'a>, Decode<B>>>(
     alloc: Global,
     frame: u64,
     k: u32,

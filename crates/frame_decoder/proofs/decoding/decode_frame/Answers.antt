@@ -50,6 +50,9 @@ filter_frame-requires-clause-fit g c =
 pub filter_frame-requires-clause-range : goal.filter_frame-requires-clause-range
 filter_frame-requires-clause-range g c = rw (c.new-2.ensures, c.planes_mut.ensures.value) c.in_ok-counts.ensures.planes.range
 
+pub filter_frame-requires-clause-kept : goal.filter_frame-requires-clause-kept
+filter_frame-requires-clause-kept g c = rw c.new-2.ensures (g.met.P.FilterSample.are_kept _ c.requires.kept)
+
 pub returns : goal.returns
 returns g c =
     let by = c.args.by in

@@ -3,7 +3,7 @@ use Rattle.job_crew.specs.Runs.{GoesOn}
 use Rattle.job_rows.specs.job_results.Groups.{in_film}
 use Rattle.job_rows.specs.job_results.Meaning.{decode_rules}
 use Rattle.job_decoder.proofs.Groups.{goes_on_in_film}
-use Rattle.job_decoder.proofs.lookup.FilmResultsResultsJobResultDecode.result.Goals as goal
+use Rattle.job_decoder.proofs.lookup.FilmResultsLookupJobResultDecode.result.Goals as goal
 
 pub returns-in-Some-clause-goes_on : goal.returns-in-Some-clause-goes_on
 returns-in-Some-clause-goes_on g c =
