@@ -8,7 +8,7 @@ use Rattle.std.proofs.lemmas.List.{get_or-take, get_or-drop, get_or-replicate, g
 use Rattle.std.proofs.lemmas.List.FromFn.{length-map-range_with_len, get_or-map-range_with_len}
 use Rattle.vp9_types.specs.Maps.{Map, IsAtMost, IsPiece, rows_of, row_of, with_block}
 use Rattle.planes.specs.declared.area.Area.{Area}
-use Rattle.planes.specs.Planes.{PlaneSamples, IsArea, moved_to, with_part, HasRow, lower_end, right_end}
+use Rattle.planes.specs.Planes.{PlaneSamples, IsArea, StartsIn, moved_to, with_part, HasRow, lower_end, right_end}
 use Rattle.planes.specs.Code.{place_in}
 use Rattle.planes.specs.Code.{written_over, with_row}
 use Rattle.planes.proofs.RowLemmas.{next, place, add-sub_left, row_put, map_mid}
@@ -275,3 +275,33 @@ rows_are f a xs row n near some inside whole =
       room = λ r high. rw (part, long) (next w r n high);
       near = omega (arith, near.wide);
     }
+
+---- A part of rows ----
+
+pub part_fits : (a : Area) (row column rows columns long : ℕ) → StartsIn a row column → 0 < rows → row + rows ≤ lower_end a → column + columns ≤ right_end a
+    → long ≡ a.rows * a.columns → place_in a row column + ((rows - 1) * a.columns + columns) ≤ long
+part_fits a row column rows columns long starts some below right whole =
+    let high = next a.columns ((row - a.first_row) + (rows - 1)) a.rows (last_of a.first_row row rows a.rows starts.above some below) in
+    omega (arith, whole, high, starts.left, right)
+  where
+    last_of : (first row rows all : ℕ) → first ≤ row → 0 < rows → row + rows ≤ first + all → (row - first) + (rows - 1) < all
+    last_of first row rows all above some below = omega arith
+
+in_part : (i j rows columns w : ℕ) → i < rows → j < columns → i * w + j < (rows - 1) * w + columns
+in_part i j rows columns w high low = omega (arith, low, mul-le-mul_right w (before i rows high))
+  where
+    before : (i rows : ℕ) → i < rows → i ≤ rows - 1
+    before i rows high = omega arith
+
+pub part_sample : {X : Type 0} (f : X → ℕ) (a : Area) (xs : List X) (row column rows columns : ℕ) → StartsIn a row column → column + columns ≤ right_end a
+    → (i j : ℕ) → i < rows → j < columns
+    → get_or (map f (take (place_in a row column + ((rows - 1) * a.columns + columns) - place_in a row column) (drop (place_in a row column) xs))) (i * a.columns + j) 0
+    ≡ area_map a (map f xs) (row + i) (column + j)
+part_sample f a xs row column rows columns starts right i j high low =
+    let at : ℕ = place_in a row column in
+    let w : ℕ = a.columns in
+    let n : ℕ = (rows - 1) * w + columns in
+    let here : at + (i * w + j) ≡ place_in a row (column + j) + i * w = omega (arith, starts.left) in
+    ap (λ (l : List ℕ). get_or l (i * w + j) 0) (sym (take-map f (at + n - at) (drop at xs)) ∙ ap (take (at + n - at)) (sym (drop-map f at xs)))
+    ∙ (part_at at n (map f xs) (i * w + j) (in_part i j rows columns w high low)
+    ∙ rw here (column_sample a (map f xs) row (column + j) i starts.above (omega (arith, starts.left)) (omega (arith, low, right))))

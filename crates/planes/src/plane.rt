@@ -91,6 +91,25 @@ impl<P: Sample> SamplePlane<P> {
         (&self.samples[at..at + count * columns], columns)
     }
 
+    /// The samples of so many rows and columns, and what stands between them: from a place on to the last one of the last row.
+    /// And how far each of the rows begins behind the one above.
+    #[inline(always)]
+    pub fn part(&self, row: usize, column: usize, rows: usize, columns: usize) -> (&[P], usize)
+        requires inside { StartsIn self.now.area row column }
+        requires some { 0 < rows }
+        requires below { row + rows ≤ lower_end self.now.area }
+        requires right { column + columns ≤ right_end self.now.area }
+        ensures apart { result.1 ≡ self.now.area.columns }
+        ensures near { result.1 ≤ 65536 }
+        ensures long { length result.0.now ≡ (rows - 1) * result.1 + columns }
+        ensures samples { (i j : ℕ) → i < rows → j < columns → slice_index (map P.value result.0.now) (i * result.1 + j) ≡ plane_map self.now (row + i) (column + j) }
+    {
+        let width = self.area.columns;
+        let at = self.area.place_of(row, column);
+        let long = (rows - 1) * width + columns;
+        (&self.samples[at..at + long], width)
+    }
+
     /// As `row`, of the row above.
     #[inline(always)]
     #[tactic(auto, using(crate::proofs::PlaneLemmas::row_fits, crate::proofs::PlaneLemmas::row_is))]
