@@ -56,13 +56,14 @@ pub fn tokens<const COUNTS: bool>(
     ensures none { result ≡ 0 → levels.new ≡ levels.old }
     ensures small { All (λ level. unsigned_abs level < 2 ^ 19) levels.new }
 {
-    // A copy, since behind the reference each bool would be stored.
+    // Copies, since behind references each bool would be stored, and the tables read again after each store.
     let mut decoder = reader.decoder();
+    let tables = *tables;
     let count = match tables.tx {
-        TxSize::T4x4 => read_by::<COUNTS, 16>(&mut decoder, reader, tables, first, levels),
-        TxSize::T8x8 => read_by::<COUNTS, 64>(&mut decoder, reader, tables, first, levels),
-        TxSize::T16x16 => read_by::<COUNTS, 256>(&mut decoder, reader, tables, first, levels),
-        TxSize::T32x32 => read_by::<COUNTS, 1024>(&mut decoder, reader, tables, first, levels),
+        TxSize::T4x4 => read_by::<COUNTS, 16>(&mut decoder, reader, &tables, first, levels),
+        TxSize::T8x8 => read_by::<COUNTS, 64>(&mut decoder, reader, &tables, first, levels),
+        TxSize::T16x16 => read_by::<COUNTS, 256>(&mut decoder, reader, &tables, first, levels),
+        TxSize::T32x32 => read_by::<COUNTS, 1024>(&mut decoder, reader, &tables, first, levels),
     };
     reader.go_on(decoder);
     count

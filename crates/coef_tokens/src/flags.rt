@@ -28,14 +28,17 @@ fn is_any(flags: &[bool]) -> bool
 }
 
 #[inline(always)]
-#[tactic(auto, using(crate::proofs::Spans::span))]
 fn is_any_set(flags: &[bool], from: usize, n: usize) -> bool
     requires from { from ≤ length flags.now }
     requires few { n ≤ 64 }
     ensures { result ≡ any_set flags.now from n }
 {
-    let end = flags.len().min(from + n);
-    is_any(&flags[from..end])
+    // Most spans are inside of the row, where their length is known before the program runs.
+    if from + n <= flags.len() {
+        is_any(&flags[from..from + n])
+    } else {
+        is_any(&flags[from..])
+    }
 }
 
 /// Whether a single flag is set; past the row's end none is.
@@ -78,6 +81,16 @@ fn mark_span(flags: &mut [bool], from: usize, n: usize, value: bool)
     flags[from..end].fill(value);
 }
 
+/// Marks a span that is inside of the row. Its length is known before the program runs, so that it is stored at once.
+#[inline(always)]
+#[tactic(auto, unfolding(crate::specs::Flags::marked))]
+fn mark_whole<const N: usize>(flags: &mut [bool], from: usize, value: bool)
+    requires inside { from + N ≤ length flags.old }
+    ensures { flags.new ≡ marked flags.old from N value }
+{
+    flags[from..from + N].copy_from_slice(&[value; N]);
+}
+
 /// Sets a single flag, if it is in the row.
 #[inline(always)]
 #[tactic(auto, using(crate::proofs::Spans::mark_inside, crate::proofs::Spans::mark_past))]
@@ -97,10 +110,13 @@ pub fn mark(flags: &mut [bool], from: usize, n: usize, value: bool)
     requires few { n ≤ 64 }
     ensures { flags.new ≡ marked flags.old from n value }
 {
-    // Most blocks are the smallest, and for one flag a call that fills would cost more than all the rest.
-    if n == 1 {
-        mark_one(flags, from, value);
-    } else {
-        mark_span(flags, from, n, value);
+    // A call that fills would cost more than all the rest, and few spans reach over the row's end.
+    match n {
+        1 => mark_one(flags, from, value),
+        2 if from + 2 <= flags.len() => mark_whole::<2>(flags, from, value),
+        4 if from + 4 <= flags.len() => mark_whole::<4>(flags, from, value),
+        8 if from + 8 <= flags.len() => mark_whole::<8>(flags, from, value),
+        16 if from + 16 <= flags.len() => mark_whole::<16>(flags, from, value),
+        _ => mark_span(flags, from, n, value),
     }
 }
