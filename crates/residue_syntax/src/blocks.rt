@@ -17,7 +17,9 @@ use counting_reader::CountingReader;
 use frame_setting::FrameSetting;
 use vp9_types::{Plane, Rule};
 
-/// Reads the residue of a block in a plane, and answers whether it has any.
+/// Reads the residue of a block in a plane, and answers whether it has any. It is part of its caller, so that the planes
+/// share what is known of their block.
+#[inline(always)]
 fn read_plane<const COUNTS: bool>(
     reader: &mut CountingReader<COUNTS>,
     setting: &FrameSetting,

@@ -26,12 +26,14 @@ pub struct BlockInPlane {
     pub quant: Quant,
 }
 
+#[inline(always)]
 fn goes_by_mode(lossless: bool, plane: Plane, tx: TxSize) -> bool
     ensures { result ≡ goes_by_mode lossless plane tx }
 {
     tx != TxSize::T32x32 && plane == Plane::Y && !lossless
 }
 
+#[inline(always)]
 fn types_by(lossless: bool, plane: Plane, tx: TxSize, prediction: &Prediction) -> [TxType; 4]
     ensures { result ≡ types_by lossless plane tx prediction.now }
 {
@@ -51,6 +53,7 @@ fn types_by(lossless: bool, plane: Plane, tx: TxSize, prediction: &Prediction) -
 
 impl BlockInPlane {
     /// A block of a frame in a plane.
+    #[inline(always)]
     pub fn of(header: &Header, block: &BlockInfo, plane: Plane) -> BlockInPlane
         requires segment { block.now.segment ≤ 7 }
         requires fits { tx_number block.now.tx ≤ greatest_of block.now.size }

@@ -66,7 +66,8 @@ fn of_size(b: &BlockInPlane, tx: TxSize) -> BlockInPlane
 }
 
 /// Reads the residues of a block that isn't skipped, and answers whether it has any. The size of its transform blocks is
-/// looked at once, so that it is known in all that is done for each of them.
+/// looked at once, so that it is known in all that is done for each of them. That is much code, which stands once.
+#[inline(never)]
 pub(crate) fn read_coded<const COUNTS: bool>(
     reader: &mut CountingReader<COUNTS>,
     contexts: &Contexts,
@@ -103,6 +104,7 @@ pub(crate) fn read_coded<const COUNTS: bool>(
     }
 }
 
+#[inline(always)]
 fn clear_flags(flags: &mut [bool])
     ensures { (k : ℕ) → get_or flags.new k false ≡ false }
 {
@@ -110,6 +112,7 @@ fn clear_flags(flags: &mut [bool])
 }
 
 /// Says of a skipped block that it has none, wherever its transform blocks lie.
+#[inline(always)]
 pub(crate) fn skip_residues(sides: &mut Sides, block: &PlaneBlock, residues: &mut PlaneResidues)
     requires beside { IsBeside block.now 0 0 sides.old }
     ensures read { (b : BlockInPlane) (places : List TransformPlace) → b.block ≡ block.now →

@@ -111,6 +111,7 @@ impl Sides {
     }
 
     /// Says that a block has no coefficients.
+    #[inline(always)]
     pub fn mark_skipped(&mut self, block: &PlaneBlock)
         requires beside { IsBeside block.now 0 0 self.old }
         ensures value { self.new ≡ skipped_sides block.now self.old }
@@ -189,6 +190,7 @@ fn side_in_4s(tx: TxSize) -> usize
 }
 
 /// A side of a block in a plane, in 4s, from that in 8s of luma.
+#[inline(always)]
 fn block_in_4s(eights: u8, ss: bool) -> usize
     requires { eights ≤ 8 }
     ensures value { result ≡ (if ss then eights else 2 * eights) }
