@@ -97,6 +97,17 @@ fn start_of(span: &BlockSpan, offset_in_block: u32, mv: i32, scale: u32) -> i32
     whole_of(scale, first) + distance_of(scale, span.ss, first, vector)
 }
 
+/// The start of a block in a reference of the frame's size, where nothing is scaled.
+#[inline(always)]
+pub(crate) fn plain_start(span: &BlockSpan, mv: i32) -> i32
+    requires span { IsSpan span.now }
+    requires near { unsigned_abs mv ≤ 2 ^ 16 }
+    ensures value { result ≡ start_x (2 ^ 14) span.now.ss (span_start span.now) (clamped_vector span.now mv) }
+    ensures near { unsigned_abs result ≤ 2 ^ 24 }
+{
+    16 * first_sample(span) as i32 + clamp_mv(span, mv)
+}
+
 /// Where a part of a block is predicted from along one direction, which begins so many samples after the block's first.
 #[inline(always)]
 pub(crate) fn axis_of(
