@@ -1,3 +1,4 @@
 pub mod Scales
 pub mod Kept
 pub mod Orders
+pub mod Unscaled

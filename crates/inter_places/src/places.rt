@@ -1,6 +1,7 @@
 //! Places of the parts of blocks.
 
-ghost use Rattle.std.specs.Prelude.{◌≡◌, ℕ, ◌*◌, ◌/◌, ◌+◌, ◌<◌, ◌≤◌, ◌^◌, unsigned_abs};
+ghost use Rattle.std.specs.Prelude.{◌≡◌, ℕ, ◌*◌, ◌/◌, ◌+◌, ◌<◌, ◌≤◌, ◌^◌, false, unsigned_abs};
+ghost use Rattle.block_geometry.specs.BlockSizes.{is_below_8x8};
 ghost use Rattle.inter_places.specs.Axes.{IsAxis, IsPlace};
 ghost use Rattle.inter_places.specs.PlaneVectors.{IsSpan};
 ghost use Rattle.inter_places.specs.Places.{IsPart, IsReference, parts_of, place_of, is_subsampled, fours, offset_in_block, part_length, part_vector, part_start, predicted_length, part_axis, span_of, coded_length, luma_length, plane_length};
@@ -9,7 +10,7 @@ ghost use Rattle.vp9_types.specs.Shapes.{mi_rows, mi_cols, halved};
 use crate::axis::{Axis, Place};
 use crate::means::{component, mean_vector};
 use crate::part::{BlockPart, Direction};
-use crate::scaling::{axis_of, first_sample, scale};
+use crate::scaling::{axis_of, first_sample, plain_start, scale};
 use crate::span::BlockSpan;
 use block_geometry::{height_8, is_below_8x8, width_8};
 use block_plan::{BlockInfo, InterPrediction};
@@ -251,9 +252,64 @@ fn find_place(
     }
 }
 
-/// The same of a block below 8x8, which few are: so that where others are predicted from is found without its tests.
+/// Where a block from 8x8 on is predicted from along one direction, in a reference of the frame's length there.
+#[inline(always)]
+fn plain_axis(
+    shape: &Shape,
+    block: &BlockInfo,
+    inter: &InterPrediction,
+    part: BlockPart,
+    reference: &Shape,
+    along: Direction,
+) -> Axis
+    requires part { IsPart shape.now block.now part }
+    requires reference { IsReference shape.now reference.now }
+    requires whole { is_below_8x8 block.now.size ≡ false }
+    requires same { luma_length reference.now along ≡ luma_length shape.now along }
+    ensures value { result ≡ part_axis shape.now block.now inter.now part reference.now along }
+    ensures fits { IsAxis result }
+{
+    let span = span_of(shape, block, part.plane, along);
+    Axis {
+        start: plain_start(&span, component(inter, part.list, 0, along)),
+        step: 16,
+        size: plane_length(reference, part.plane, along),
+    }
+}
+
+/// Where a block from 8x8 on is predicted from in a reference of the frame's size, as nearly all are: it is a single part,
+/// and nothing is scaled.
+#[inline(always)]
+#[tactic(auto, unfolding(crate::specs::Places::place_of))]
+fn plain_place(
+    shape: &Shape,
+    block: &BlockInfo,
+    inter: &InterPrediction,
+    part: BlockPart,
+    reference: &Shape,
+) -> Place
+    requires part { IsPart shape.now block.now part }
+    requires reference { IsReference shape.now reference.now }
+    requires whole { is_below_8x8 block.now.size ≡ false }
+    requires wide { reference.now.w ≡ shape.now.w }
+    requires high { reference.now.h ≡ shape.now.h }
+    ensures value { result ≡ place_of shape.now block.now inter.now part reference.now }
+    ensures fits { IsPlace result }
+{
+    Place {
+        plane: part.plane,
+        row: part_start(shape, block, part, Direction::Down) as usize,
+        column: part_start(shape, block, part, Direction::Across) as usize,
+        rows: predicted_length(shape, block, part, Direction::Down) as usize,
+        columns: predicted_length(shape, block, part, Direction::Across) as usize,
+        down: plain_axis(shape, block, inter, part, reference, Direction::Down),
+        across: plain_axis(shape, block, inter, part, reference, Direction::Across),
+    }
+}
+
+/// The same of any block and any reference, out of line, as few come here.
 #[inline(never)]
-fn place_below(
+fn other_place(
     shape: &Shape,
     block: &BlockInfo,
     inter: &InterPrediction,
@@ -269,7 +325,7 @@ fn place_below(
 }
 
 /// Where a part of a block is predicted from in a reference.
-#[inline(never)]
+#[inline(always)]
 pub fn place(
     shape: &Shape,
     block: &BlockInfo,
@@ -282,10 +338,11 @@ pub fn place(
     ensures value { result ≡ place_of shape.now block.now inter.now part reference.now }
     ensures fits { IsPlace result }
 {
-    if is_below_8x8(block.size) {
-        return place_below(shape, block, inter, part, reference);
+    if !is_below_8x8(block.size) && reference.w == shape.w && reference.h == shape.h {
+        plain_place(shape, block, inter, part, reference)
+    } else {
+        other_place(shape, block, inter, part, reference)
     }
-    find_place(shape, block, inter, part, reference)
 }
 
 /// The rows of a reference that a part of a block is predicted from, and where.

@@ -14,7 +14,7 @@ pub struct BlockSpan {
 }
 
 #[inline(always)]
-fn in_sixteenths(ss: bool, mv: i32) -> i32
+pub(crate) fn in_sixteenths(ss: bool, mv: i32) -> i32
     requires { unsigned_abs mv ≤ 2 ^ 20 }
     ensures value { result ≡ in_sixteenths ss mv }
     ensures near { unsigned_abs result ≤ 2 * unsigned_abs mv }
@@ -36,7 +36,7 @@ fn length_of(span: &BlockSpan) -> i32
 
 /// How far a vector may point out of the frame: by the block and so many samples more.
 #[inline(always)]
-fn reach(span: &BlockSpan, more: u8) -> i32
+pub(crate) fn reach(span: &BlockSpan, more: u8) -> i32
     requires span { IsSpan span.now }
     requires more { more ≤ 4 }
     ensures value { result ≡ spel more span.now }

@@ -14,3 +14,4 @@ pub mod ModeWalks
 pub mod Columns
 pub mod ModeTiles
 pub mod BySize
+pub mod Anywhere

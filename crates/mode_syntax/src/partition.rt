@@ -1,6 +1,7 @@
 //! How a square is partitioned.
 
-ghost use Rattle.std.specs.Prelude.{◌≡◌, ◌+◌, ◌-◌, ◌*◌, ◌/◌, ◌^◌, ◌<◌, ◌≤◌, ℕ, List, length, slice_index};
+ghost use Rattle.std.specs.Prelude.{◌≡◌, ◌+◌, ◌-◌, ◌*◌, ◌/◌, ◌^◌, ◌<◌, ◌≤◌, ℕ, List, length, nat_lt, slice_index};
+ghost use Rattle.std.specs.List.{list_any};
 ghost use Rattle.std.specs.Option.{option_copied};
 ghost use Rattle.counting_reader.specs.Counting.{count};
 ghost use Rattle.counting_reader.specs.Code.{Reads};
@@ -12,7 +13,7 @@ ghost use Rattle.vp9_tables.specs.Numbers.{partition_number};
 ghost use Rattle.vp9_tables.specs.SymbolTrees.{partition_tree};
 
 use crate::square_at::SquareAt;
-use block_geometry::{FramePlaces, height_4, partition_context, square, width_4};
+use block_geometry::{FramePlaces, height_4, square, width_4};
 use block_plan::{BlockInfo, Neighbours, above_place, left_place};
 use counting_reader::CountingReader;
 use frame_setting::FrameSetting;
@@ -140,28 +141,33 @@ fn height_beside(block: Option<&BlockInfo>) -> u8
     }
 }
 
-/// The widths of the blocks above a row, from a column on.
-fn put_widths<N: Neighbours>(widths: &mut [u8], earlier: &N, row: u32, col: u32)
-    requires short { length widths.old ≤ 8 }
-    requires near { col + length widths.old < 2 ^ 32 }
-    requires held { (k : ℕ) → k < length widths.old → 0 < row → N.holds earlier.now (row - 1) (col + k) }
-    ensures { widths.new ≡ widths_above (N.blocks earlier.now) row col (length widths.old) }
+/// Whether a block above one of n places, from a column on, is narrower than so many 4s.
+#[inline(always)]
+fn any_narrower<N: Neighbours>(earlier: &N, row: u32, col: u32, n: u32, bound: u8) -> bool
+    requires near { col + n < 2 ^ 32 }
+    requires held { (k : ℕ) → k < n → 0 < row → N.holds earlier.now (row - 1) (col + k) }
+    ensures { result ≡ list_any (λ width. nat_lt width bound) (widths_above (N.blocks earlier.now) row col n) }
 {
-    for i in 0..widths.len() {
-        widths[i] = width_beside(above_place(earlier, row, col + i as u32));
+    // All are looked at: an early stop is a jump that can't be foretold.
+    let mut narrower = false;
+    for i in 0..n {
+        narrower |= width_beside(above_place(earlier, row, col + i)) < bound;
     }
+    narrower
 }
 
-/// The heights of the blocks at the left of a column, from a row on.
-fn put_heights<N: Neighbours>(heights: &mut [u8], earlier: &N, tile_from: u32, row: u32, col: u32)
-    requires short { length heights.old ≤ 8 }
-    requires near { row + length heights.old < 2 ^ 32 }
-    requires held { (k : ℕ) → k < length heights.old → tile_from < col → N.holds earlier.now (row + k) (col - 1) }
-    ensures { heights.new ≡ heights_left (N.blocks earlier.now) tile_from row col (length heights.old) }
+/// Whether a block at the left of one of the square's n places, from its first row on, is lower than so many 4s.
+#[inline(always)]
+fn any_lower<N: Neighbours>(earlier: &N, at: SquareAt, n: u32, bound: u8) -> bool
+    requires near { at.row + n < 2 ^ 32 }
+    requires held { (k : ℕ) → k < n → at.tile_from < at.col → N.holds earlier.now (at.row + k) (at.col - 1) }
+    ensures { result ≡ list_any (λ height. nat_lt height bound) (heights_left (N.blocks earlier.now) at.tile_from at.row at.col n) }
 {
-    for i in 0..heights.len() {
-        heights[i] = height_beside(left_place(earlier, tile_from, row + i as u32, col));
+    let mut lower = false;
+    for i in 0..n {
+        lower |= height_beside(left_place(earlier, at.tile_from, at.row + i, at.col)) < bound;
     }
+    lower
 }
 
 /// The side of a square in places of 8x8.
@@ -170,16 +176,11 @@ pub fn side_of(level: u8) -> u32
     ensures is { result ≡ 2 ^ level }
     ensures most { result ≤ 8 }
 {
-    match level {
-        0 => 1,
-        1 => 2,
-        2 => 4,
-        _ => 8,
-    }
+    1 << level
 }
 
 /// The context of a square's partition, by the blocks above it and at its left: 0 to 15.
-#[tactic(auto, unfolding(crate::specs::Partitions::square_context))]
+#[tactic(auto, unfolding(crate::specs::Partitions::square_context), using(crate::proofs::Anywhere::level_kept))]
 pub fn square_context<N: Neighbours>(earlier: &N, frame: FramePlaces, at: SquareAt) -> u8
     requires level { at.level ≤ 3 }
     requires row { at.row < frame.rows }
@@ -190,15 +191,12 @@ pub fn square_context<N: Neighbours>(earlier: &N, frame: FramePlaces, at: Square
     ensures most { result < 16 }
 {
     let side = side_of(at.level);
-    let columns = side.min(at.tile_to - at.col) as usize;
-    let rows = side.min(frame.rows - at.row) as usize;
-    let mut widths = [NO_BLOCK; 8];
-    let mut heights = [NO_BLOCK; 8];
-    let above = &mut widths[..columns];
-    put_widths(above, earlier, at.row, at.col);
-    let left = &mut heights[..rows];
-    put_heights(left, earlier, at.tile_from, at.row, at.col);
-    partition_context(square(at.level), above, left)
+    let columns = side.min(at.tile_to - at.col);
+    let rows = side.min(frame.rows - at.row);
+    let size = square(at.level);
+    let narrower = any_narrower(earlier, at.row, at.col, columns, width_4(size));
+    let lower = any_lower(earlier, at, rows, height_4(size));
+    4 * at.level + 2 * u8::from(lower) + u8::from(narrower)
 }
 
 /// The probabilities of a partition, of an intra frame or by those that the frame has.
