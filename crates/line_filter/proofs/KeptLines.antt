@@ -8,7 +8,7 @@ use Rattle.std.proofs.lemmas.List.{get_or_append_left, get_or-append_right}
 use Rattle.std.proofs.lemmas.List.FromFn.{length-map-range_with_len, get_or-map-range_with_len}
 use Rattle.vp9_types.specs.Maps.{Map, with_block}
 use Rattle.planes.specs.declared.area.Area.{Area}
-use Rattle.planes.specs.Planes.{lower_end, right_end}
+use Rattle.planes.specs.Planes.{lower_end, right_end, with_part}
 use Rattle.line_filter.specs.declared.edge.FilterWidth.TheVariants.{Sixteen}
 use Rattle.line_filter.specs.declared.edge.Limits.{Limits}
 use Rattle.line_filter.specs.declared.far.Far.{Far}
@@ -276,6 +276,17 @@ down_near l a m new row column inside below off done =
     done ∙ rw (least 8 (lower_end a - (row - 4)) (omega (arith, below)), least 16 (lower_end a - (row - 8)) (omega (arith, below, inside)))
     (rw four (down_same l m row column (min 8 (right_end a - column)) (omega arith) inside off))
 
+-- what was put of four samples on each side
+pub four_down : (l : Limits) (a : Area) (m new : Map) (row column : ℕ) → new ≡ with_part a m (row - 4) column 8 8 (λ i j. nth_of_line 4 (filtered_near l true (line_down 4 m row (column + j))) i)
+    → new ≡ down_filtered 4 (filtered_near l true) a m row column
+unfolding down_filtered
+four_down l a m new row column is = is
+
+pub four_along : (l : Limits) (a : Area) (m new : Map) (row column : ℕ) → new ≡ with_part a m row (column - 4) 8 8 (λ i j. nth_of_line 4 (filtered_near l true (line_along 4 m (row + i) column)) j)
+    → new ≡ along_filtered 4 (filtered_near l true) a m row column
+unfolding along_filtered
+four_along l a m new row column is = is
+
 pub along_near : (l : Limits) (a : Area) (m new : Map) (row column : ℕ) → 8 ≤ column → column + 8 ≤ right_end a → AlongOff (is_flat_far l) m row column
     → new ≡ along_filtered 4 (filtered_near l true) a m row column → new ≡ along_filtered 8 (filtered_line l Sixteen) a m row column
 unfolding along_filtered
@@ -300,7 +311,7 @@ is_off false is = refl
 is_off true is = let no : ⊥ = cc in absurd no
 
 -- the four rows on each side are those of a line of four
-pub between_lanes : (a b : Lanes) (s : ℕ → ℕ → ℕ) (at : ℕ) → 8 ≤ at → AreLanes a (λ i j. s j (at - 8 + i)) → AreLanes b (λ i j. s j (at + i)) → AreLanes (between a b) (λ i j. s j (at - 4 + i))
+between_lanes : (a b : Lanes) (s : ℕ → ℕ → ℕ) (at : ℕ) → 8 ≤ at → AreLanes a (λ i j. s j (at - 8 + i)) → AreLanes b (λ i j. s j (at + i)) → AreLanes (between a b) (λ i j. s j (at - 4 + i))
 between_lanes a b s at inside so also = record {
   r0 = λ j low. so.r4 j low ∙ ap (s j) (omega (arith, inside));
   r1 = λ j low. so.r5 j low ∙ ap (s j) (omega (arith, inside));
@@ -311,3 +322,6 @@ between_lanes a b s at inside so also = record {
   r6 = λ j low. also.r2 j low ∙ ap (s j) (omega (arith, inside));
   r7 = λ j low. also.r3 j low ∙ ap (s j) (omega (arith, inside));
 }
+
+pub between_by : (a b x : Lanes) (s : ℕ → ℕ → ℕ) (at : ℕ) → 8 ≤ at → x ≡ between a b → AreLanes a (λ i j. s j (at - 8 + i)) → AreLanes b (λ i j. s j (at + i)) → AreLanes x (λ i j. s j (at - 4 + i))
+between_by a b x s at inside is so also = rw is (between_lanes a b s at inside so also)

@@ -1,8 +1,8 @@
 -- Squares of eight rows of eight samples, loaded and stored.
-use Rattle.std.proofs.Common.{◌≡◌, ◌<◌, ◌≤◌, ◌+◌, ◌*◌, ◌-◌, ℕ, zero, suc, inl, inr, sym, ◌∙◌, arith, ap, List, length, get_or, take, drop, ◌++◌, replicate, slice_index, map}
+use Rattle.std.proofs.Common.{◌≡◌, ◌<◌, ◌≤◌, ◌+◌, ◌*◌, ◌-◌, ℕ, zero, suc, inl, inr, refl, sym, ◌∙◌, arith, ap, List, length, get_or, take, drop, ◌++◌, replicate, slice_index, map}
 use Rattle.std.proofs.lemmas.Bool.{cases_lt}
 use Rattle.std.proofs.lemmas.Bool.Decides.{nat_tests}
-use Rattle.std.proofs.lemmas.List.{get_or_append_left, get_or-append_right, get_or-drop, get_or-replicate, get_or_past, get_or-map, length-map, length-take, length-drop}
+use Rattle.std.proofs.lemmas.List.{get_or_append_left, get_or-append_right, get_or-drop, get_or-replicate, get_or_past, get_or-map, length-map, length-take, length-drop, get_or-take, take-map, drop-map}
 use Rattle.std.proofs.lemmas.Simd.{put_chunk_whole}
 use lib.Lanes.{put_chunk}
 use mir.Syntax.{w8, w16, cast, unsigned}
@@ -117,3 +117,51 @@ bytes_written to row long eight small j low =
     let same : length to ≡ length bytes = long ∙ sym (length-map row byte_of ∙ eight) in
     ap (λ (w : List ℕ). slice_index w j) (put_chunk_whole to bytes same)
     ∙ (get_or-map byte_of row j 0 0 (omega (arith, low, eight)) ∙ byte_same (slice_index row j) (small j low))
+
+---- Squares of one slice ----
+
+pub eight_at : {X : Type 0} (f : X → ℕ) (xs : List X) (at j : ℕ) → j < 8
+    → ◌≡◌ {A = ℕ} (slice_index (map f (take (at + 8 - at) (drop at xs))) j) (slice_index (map f xs) (at + j))
+eight_at f xs at j low =
+    ap (λ (l : List ℕ). get_or l j 0) (sym (take-map f (at + 8 - at) (drop at xs)) ∙ ap (take (at + 8 - at)) (sym (drop-map f at xs)))
+    ∙ rw (add-sub_left, get_or-take, get_or-drop) refl
+
+-- a square of a part of a plane
+pub square_of : (x : Lanes) (xs : List ℕ) (w at : ℕ) (f : Map) → AreLanes x (λ i j. slice_index xs (i * w + (at + j)))
+    → ((i j : ℕ) → i < 8 → j < 8 → slice_index xs (i * w + (at + j)) ≡ f i j) → AreLanes x f
+square_of x xs w at f so is = record {
+  r0 = λ j low. so.r0 j low ∙ is 0 j (omega arith) low;
+  r1 = λ j low. so.r1 j low ∙ is 1 j (omega arith) low;
+  r2 = λ j low. so.r2 j low ∙ is 2 j (omega arith) low;
+  r3 = λ j low. so.r3 j low ∙ is 3 j (omega arith) low;
+  r4 = λ j low. so.r4 j low ∙ is 4 j (omega arith) low;
+  r5 = λ j low. so.r5 j low ∙ is 5 j (omega arith) low;
+  r6 = λ j low. so.r6 j low ∙ is 6 j (omega arith) low;
+  r7 = λ j low. so.r7 j low ∙ is 7 j (omega arith) low;
+}
+
+-- the samples of a plane from a place on, row after row
+abbrev pub ArePart : List ℕ → ℕ → Map → ℕ → ℕ → ℕ → ℕ → Type 0
+ArePart xs w m row column rows columns = (i j : ℕ) → i < rows → j < columns → slice_index xs (i * w + j) ≡ m (row + i) (column + j)
+
+pub square_first : (x : Lanes) (xs : List ℕ) (w : ℕ) (m : Map) (row column rows columns : ℕ) → 8 ≤ rows → 8 ≤ columns → ArePart xs w m row column rows columns
+    → AreLanes x (λ i j. slice_index xs (i * w + (0 + j))) → AreLanes x (λ i j. m (row + i) (column + j))
+square_first x xs w m row column rows columns high wide part so = square_of x xs w 0 _ so (λ i j low narrow.
+    ap (λ (n : ℕ). slice_index xs (i * w + n)) (none_more j) ∙ part i j (omega (arith, low, high)) (omega (arith, narrow, wide)))
+  where
+    none_more : (j : ℕ) → 0 + j ≡ j
+    none_more j = omega arith
+
+pub square_right : (x : Lanes) (xs : List ℕ) (w : ℕ) (m : Map) (row column : ℕ) → 8 ≤ column → ArePart xs w m row (column - 8) 8 16
+    → AreLanes x (λ i j. slice_index xs (i * w + (8 + j))) → AreLanes x (λ i j. m (row + i) (column + j))
+square_right x xs w m row column far part so =
+    square_of x xs w 8 _ so (λ i j low narrow. part i (8 + j) low (omega (arith, narrow)) ∙ ap (m (row + i)) (omega (arith, far)))
+
+pub square_below : (x : Lanes) (xs : List ℕ) (w : ℕ) (m : Map) (row column : ℕ) → 8 ≤ row → ArePart xs w m (row - 8) column 16 8
+    → AreLanes x (λ i j. slice_index xs (i * w + (8 * w + j))) → AreLanes x (λ i j. m (row + i) (column + j))
+square_below x xs w m row column far part so =
+    square_of x xs w (8 * w) _ so (λ i j low narrow.
+    ap (λ (n : ℕ). slice_index xs n) (lower i j) ∙ (part (8 + i) j (omega (arith, low)) narrow ∙ ap (λ (y : ℕ). m y (column + j)) (omega (arith, far))))
+  where
+    lower : (i j : ℕ) → i * w + (8 * w + j) ≡ (8 + i) * w + j
+    lower i j = omega arith

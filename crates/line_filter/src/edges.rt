@@ -6,60 +6,16 @@ ghost use Rattle.planes.specs.Planes.{plane_map, with_part, lower_end, right_end
 ghost use Rattle.line_filter.specs.declared.edge.FilterWidth.TheVariants.{Sixteen};
 ghost use Rattle.line_filter.specs.declared.edge.Pass.TheVariants.{Vertical, Horizontal};
 ghost use Rattle.line_filter.specs.Lines.{filtered_near, filtered_line};
-ghost use Rattle.line_filter.specs.FilteredEdges.{line_down, line_along, nth_of_line, with_edge};
-ghost use Rattle.line_filter.specs.Code.{AreLanes, IsAcross, IsAlong, IsEdgeIn, IsAcrossBy, IsAlongBy, down_filtered, along_filtered};
+ghost use Rattle.line_filter.specs.FilteredEdges.{with_edge};
+ghost use Rattle.line_filter.specs.Code.{IsAcross, IsAlong, IsEdgeIn, IsAcrossBy, IsAlongBy, down_filtered, along_filtered};
 
 use crate::edge::{Edge, FilterWidth, Limits, Pass};
 use crate::far_lanes::{between, far_masks, filtered_far_lanes};
-use crate::kept::EdgeSample;
-use crate::lanes::{Lanes, filtered_by};
-use crate::squares::lanes_at;
+use crate::kept::{EdgeSample, put_known};
+use crate::lanes::filtered_by;
+use crate::squares::{around, beside, has_eight_columns, has_eight_rows, lanes_at};
 use crate::turn::turned;
 use planes::SamplePlane;
-
-/// Filters eight columns that are loaded across the edge above a place, four rows on each side.
-#[inline(always)]
-fn filter_loaded_down<P: EdgeSample, const SITE: usize>(
-    plane: &mut SamplePlane<P>,
-    x: &Lanes,
-    row: usize,
-    column: usize,
-    l: Limits,
-    wide: bool,
-)
-    requires inside { IsAcrossBy 4 plane.old.area row column }
-    requires loaded { AreLanes x.now (λ i j. plane_map plane.old (row - 4 + i) (column + j)) }
-    requires range { IsAtMost (2 * l.half - 1) (plane_map plane.old) }
-    requires fits { 2 * l.half - 1 ≤ P.greatest }
-    requires half { l.half ≤ 2048 }
-    ensures area { plane.new.area ≡ plane.old.area }
-    ensures map { plane_map plane.new ≡ down_filtered 4 (filtered_near l wide) plane.old.area (plane_map plane.old) row column }
-{
-    let lanes = filtered_by::<P, SITE>(x, l, wide);
-    P::put_lanes(plane, row - 4, column, &lanes);
-}
-
-/// Filters eight rows that are loaded, as columns, across the edge left of a place.
-#[inline(always)]
-fn filter_loaded_along<P: EdgeSample, const SITE: usize>(
-    plane: &mut SamplePlane<P>,
-    x: &Lanes,
-    row: usize,
-    column: usize,
-    l: Limits,
-    wide: bool,
-)
-    requires inside { IsAlongBy 4 plane.old.area row column }
-    requires loaded { AreLanes x.now (λ i j. plane_map plane.old (row + j) (column - 4 + i)) }
-    requires range { IsAtMost (2 * l.half - 1) (plane_map plane.old) }
-    requires fits { 2 * l.half - 1 ≤ P.greatest }
-    requires half { l.half ≤ 2048 }
-    ensures area { plane.new.area ≡ plane.old.area }
-    ensures map { plane_map plane.new ≡ along_filtered 4 (filtered_near l wide) plane.old.area (plane_map plane.old) row column }
-{
-    let lanes = filtered_by::<P, SITE>(x, l, wide);
-    P::put_lanes(plane, row, column - 4, &turned(&lanes));
-}
 
 /// Filters the eight columns from a place on across the edge above it. Each width has a `SITE` of its own, and is compiled
 /// by itself.
@@ -78,8 +34,10 @@ fn filter_down<P: EdgeSample, const SITE: usize>(
     ensures area { plane.new.area ≡ plane.old.area }
     ensures map { plane_map plane.new ≡ down_filtered 4 (filtered_near l wide) plane.old.area (plane_map plane.old) row column }
 {
-    let lanes = lanes_at(plane, row - 4, column);
-    filter_loaded_down::<P, SITE>(plane, &lanes, row, column, l, wide);
+    let inside = has_eight_columns(plane, column);
+    let lanes = lanes_at(plane, row - 4, column, inside);
+    let lanes = filtered_by::<P, SITE>(&lanes, l, wide);
+    put_known(plane, row - 4, column, &lanes, inside);
 }
 
 /// Filters the eight rows from a place on across the edge at its left, likewise.
@@ -98,8 +56,10 @@ fn filter_along<P: EdgeSample, const SITE: usize>(
     ensures area { plane.new.area ≡ plane.old.area }
     ensures map { plane_map plane.new ≡ along_filtered 4 (filtered_near l wide) plane.old.area (plane_map plane.old) row column }
 {
-    let lanes = turned(&lanes_at(plane, row, column - 4));
-    filter_loaded_along::<P, SITE>(plane, &lanes, row, column, l, wide);
+    let inside = has_eight_rows(plane, row);
+    let lanes = turned(&lanes_at(plane, row, column - 4, inside));
+    let lanes = filtered_by::<P, SITE>(&lanes, l, wide);
+    put_known(plane, row, column - 4, &turned(&lanes), inside);
 }
 
 /// The same as `filter_down` by the filters of all widths.
@@ -112,19 +72,20 @@ fn filter_far_down<P: EdgeSample>(plane: &mut SamplePlane<P>, row: usize, column
     ensures area { plane.new.area ≡ plane.old.area }
     ensures map { plane_map plane.new ≡ down_filtered 8 (filtered_line l Sixteen) plane.old.area (plane_map plane.old) row column }
 {
-    let above = lanes_at(plane, row - 8, column);
-    let below = lanes_at(plane, row, column);
+    let inside = has_eight_columns(plane, column);
+    let (above, below) = around(plane, row, column, inside);
     let masks = far_masks(&above, &below, l);
     if !masks.calm {
         return;
     }
     if !masks.flat {
-        filter_loaded_down::<P, 4>(plane, &between(&above, &below), row, column, l, true);
+        let near = filtered_by::<P, 4>(&between(&above, &below), l, true);
+        put_known(plane, row - 4, column, &near, inside);
         return;
     }
     let (above, below) = filtered_far_lanes::<P, 0>(&above, &below, l, masks.near);
-    P::put_lanes(plane, row - 8, column, &above);
-    P::put_lanes(plane, row, column, &below);
+    put_known(plane, row - 8, column, &above, inside);
+    put_known(plane, row, column, &below, inside);
 }
 
 /// The same as `filter_along` by the filters of all widths.
@@ -137,19 +98,21 @@ fn filter_far_along<P: EdgeSample>(plane: &mut SamplePlane<P>, row: usize, colum
     ensures area { plane.new.area ≡ plane.old.area }
     ensures map { plane_map plane.new ≡ along_filtered 8 (filtered_line l Sixteen) plane.old.area (plane_map plane.old) row column }
 {
-    let left = turned(&lanes_at(plane, row, column - 8));
-    let right = turned(&lanes_at(plane, row, column));
+    let inside = has_eight_rows(plane, row);
+    let (left, right) = beside(plane, row, column, inside);
+    let (left, right) = (turned(&left), turned(&right));
     let masks = far_masks(&left, &right, l);
     if !masks.calm {
         return;
     }
     if !masks.flat {
-        filter_loaded_along::<P, 5>(plane, &between(&left, &right), row, column, l, true);
+        let near = filtered_by::<P, 5>(&between(&left, &right), l, true);
+        put_known(plane, row, column - 4, &turned(&near), inside);
         return;
     }
     let (left, right) = filtered_far_lanes::<P, 1>(&left, &right, l, masks.near);
-    P::put_lanes(plane, row, column - 8, &turned(&left));
-    P::put_lanes(plane, row, column, &turned(&right));
+    put_known(plane, row, column - 8, &turned(&left), inside);
+    put_known(plane, row, column, &turned(&right), inside);
 }
 
 #[inline(always)]

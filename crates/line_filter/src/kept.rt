@@ -1,9 +1,9 @@
 //! Eight rows of eight samples put into a plane, by what it keeps a sample as.
 
-ghost use Rattle.std.specs.Prelude.{◌≡◌, ℕ, ◌<◌, ◌≤◌, slice_index, length};
+ghost use Rattle.std.specs.Prelude.{◌≡◌, ℕ, ◌<◌, ◌≤◌, true, slice_index, length};
 ghost use Rattle.vp9_types.specs.Maps.{rows_of, with_block};
 ghost use Rattle.planes.specs.Planes.{StartsIn, plane_map, with_part};
-ghost use Rattle.line_filter.specs.Code.{AreLanes, AreLanesAtMost, lane_at};
+ghost use Rattle.line_filter.specs.Code.{AreLanes, AreLanesAtMost, HasSquare, lane_at};
 
 use crate::lanes::{Lanes, Row, stored};
 use planes::{RowMaker, SamplePlane};
@@ -18,31 +18,62 @@ pub trait EdgeSample: Sample {
         requires fits { AreLanesAtMost Self.greatest x.now }
         ensures area { plane.new.area ≡ plane.old.area }
         ensures map { (f : ℕ → ℕ → ℕ) → AreLanes x.now f → plane_map plane.new ≡ with_part plane.old.area (plane_map plane.old) row column 8 8 f };
+
+    /// The same where all of them lie inside of the plane.
+    fn put_lanes_inside(plane: &mut SamplePlane<Self>, row: usize, column: usize, x: &Lanes)
+        requires inside { HasSquare plane.old.area row column }
+        requires fits { AreLanesAtMost Self.greatest x.now }
+        ensures area { plane.new.area ≡ plane.old.area }
+        ensures map { (f : ℕ → ℕ → ℕ) → AreLanes x.now f → plane_map plane.new ≡ with_part plane.old.area (plane_map plane.old) row column 8 8 f };
 }
 
 impl EdgeSample for u8 {
-    #[inline(always)]
+    #[inline(never)]
     fn put_lanes(plane: &mut SamplePlane<u8>, row: usize, column: usize, x: &Lanes) {
+        plane.put_square::<8>(row, column, &flat_bytes(x));
+    }
+
+    #[inline(always)]
+    fn put_lanes_inside(plane: &mut SamplePlane<u8>, row: usize, column: usize, x: &Lanes) {
         let lanes = *x;
-        let area = plane.area();
-        if 8 <= area.lower_end() - row && 8 <= area.right_end() - column {
-            plane.put_made::<8, ByteRows>(row, column, 8, &ByteRows { lanes });
-        } else {
-            put_bytes_at_end(plane, row, column, &lanes);
-        }
+        plane.put_made::<8, ByteRows>(row, column, 8, &ByteRows { lanes });
     }
 }
 
 impl EdgeSample for u16 {
-    #[inline(always)]
+    #[inline(never)]
     fn put_lanes(plane: &mut SamplePlane<u16>, row: usize, column: usize, x: &Lanes) {
+        plane.put_square::<8>(row, column, &flat(x));
+    }
+
+    #[inline(always)]
+    fn put_lanes_inside(plane: &mut SamplePlane<u16>, row: usize, column: usize, x: &Lanes) {
         let lanes = *x;
-        let area = plane.area();
-        if 8 <= area.lower_end() - row && 8 <= area.right_end() - column {
-            plane.put_made::<8, WordRows>(row, column, 8, &WordRows { lanes });
-        } else {
-            put_words_at_end(plane, row, column, &lanes);
-        }
+        plane.put_made::<8, WordRows>(row, column, 8, &WordRows { lanes });
+    }
+}
+
+/// Puts eight rows of eight samples as `put_lanes`, or where it is known that all are `inside`.
+#[inline(always)]
+pub fn put_known<P: EdgeSample>(
+    plane: &mut SamplePlane<P>,
+    row: usize,
+    column: usize,
+    x: &Lanes,
+    inside: bool,
+)
+    requires starts { StartsIn plane.old.area row column }
+    requires known { inside ≡ true → HasSquare plane.old.area row column }
+    requires fits { AreLanesAtMost P.greatest x.now }
+    ensures area { plane.new.area ≡ plane.old.area }
+    ensures map { (f : ℕ → ℕ → ℕ) → AreLanes x.now f → plane_map plane.new ≡ with_part plane.old.area (plane_map plane.old) row column 8 8 f }
+{
+    if inside {
+        P::put_lanes_inside(plane, row, column, x);
+    } else {
+        // the copy alone is kept in memory
+        let lanes = *x;
+        P::put_lanes(plane, row, column, &lanes);
     }
 }
 
@@ -127,27 +158,6 @@ fn write_bytes(to: &mut [u8], row: u16x8)
 {
     let bytes: u8x8 = row.cast();
     bytes.copy_to_slice(to);
-}
-
-/// Puts rows where some of them end, or lie, outside of the plane.
-#[inline(never)]
-fn put_bytes_at_end(plane: &mut SamplePlane<u8>, row: usize, column: usize, x: &Lanes)
-    requires inside { StartsIn plane.old.area row column }
-    requires fits { AreLanesAtMost 255 x.now }
-    ensures area { plane.new.area ≡ plane.old.area }
-    ensures map { (f : ℕ → ℕ → ℕ) → AreLanes x.now f → plane_map plane.new ≡ with_part plane.old.area (plane_map plane.old) row column 8 8 f }
-{
-    plane.put_square::<8>(row, column, &flat_bytes(x));
-}
-
-/// The same as they are.
-#[inline(never)]
-fn put_words_at_end(plane: &mut SamplePlane<u16>, row: usize, column: usize, x: &Lanes)
-    requires inside { StartsIn plane.old.area row column }
-    ensures area { plane.new.area ≡ plane.old.area }
-    ensures map { (f : ℕ → ℕ → ℕ) → AreLanes x.now f → plane_map plane.new ≡ with_part plane.old.area (plane_map plane.old) row column 8 8 f }
-{
-    plane.put_square::<8>(row, column, &flat(x));
 }
 
 /// Writes a row of a square of eight rows.

@@ -1,11 +1,9 @@
 use Rattle.std.proofs.Common.{◌∙◌}
+use Rattle.std.proofs.lemmas.List.{map-id}
 use Rattle.planes.specs.Planes.{plane_map}
-use Rattle.line_filter.proofs.SquareLemmas.{lane_is, lane_small, part_same}
+use Rattle.line_filter.proofs.SquareLemmas.{part_same}
 use Rattle.line_filter.proofs.kept.U8EdgeSample.put_lanes.Goals as goal
 
-pub put_made-requires-clause-makes : goal.put_made-requires-clause-makes
-put_made-requires-clause-makes c = λ i low. lane_small 255 c.args.x.now c.requires.fits i low
-
-pub returns-then-right_end-column-ge8-clause-map : goal.returns-then-right_end-column-ge8-clause-map
-returns-then-right_end-column-ge8-clause-map c = λ f so. let a = c.args in
-    c.put_made.ensures.map ∙ part_same a.plane.now.area (plane_map a.plane.now) a.row a.column _ f (lane_is a.x.now f so)
+pub returns-clause-map : goal.returns-clause-map
+returns-clause-map c = λ f so. let a = c.args in
+    c.put_square.ensures.map ∙ rw (map-id c.flat_bytes.result) (part_same a.plane.now.area (plane_map a.plane.now) a.row a.column _ f (c.flat_bytes.ensures f so))
