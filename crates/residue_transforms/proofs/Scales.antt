@@ -1,9 +1,11 @@
--- Levels whose products are small are multiplied four at a time.
-use Rattle.std.proofs.Common.{◌≡◌, ℕ, zero, suc, ◌+◌, ◌-◌, ◌*◌, ◌/◌, ◌%◌, ◌^◌, ◌<◌, ◌≤◌, ℤ, pos, negsuc, neg_ℤ, ◌*ℤ◌, Bool, true, false, List, length, refl, sym, ◌∙◌, ap, arith, inl, inr, nat_eq, nat_lt, All, unsigned_abs, bit_or, below_more, int_div, if◌then◌else◌}
+-- Levels whose products are small are multiplied, all by the step of the others, and the first four anew.
+use Rattle.std.proofs.Common.{◌≡◌, ℕ, zero, suc, ◌+◌, ◌-◌, ◌*◌, ◌/◌, ◌^◌, ◌<◌, ◌≤◌, ℤ, pos, negsuc, neg_ℤ, ◌*ℤ◌, Bool, true, false, List, length, get_or, set, length-set, refl, sym, ◌∙◌, ap, subst, arith, to_z, of_z, inl, inr, nat_eq, nat_lt, All, unsigned_abs, bit_or, below_more, int_div, if◌then◌else◌}
 use Rattle.std.proofs.Math.Nat.{mul-le-mul}
 use Rattle.std.proofs.lemmas.Nat.{le_or_l, le_or_r}
-use Rattle.std.proofs.lemmas.Int.{unsigned_abs-mul}
-use Rattle.std.proofs.lemmas.List.{get_or_default, ext_get_or}
+use mir.Syntax.{w32}
+use mir.Val.{SFits}
+use Rattle.std.proofs.lemmas.Int.{unsigned_abs-mul, to_z-of_z}
+use Rattle.std.proofs.lemmas.List.{get_or_default, get_or-set_other, ext_get_or}
 use Rattle.std.proofs.lemmas.List.FromFn.{length-map-range_with_len}
 use Rattle.std.proofs.lemmas.List.Sums.{list_all-from_AllPass}
 use Rattle.std.proofs.lemmas.Bool.{cases_lt}
@@ -23,6 +25,7 @@ use Rattle.residue_transforms.specs.SquareBlocks.{HasPiece}
 use Rattle.residue_transforms.specs.Residue.{scaled, quantiser, coefficient, coefficients}
 use Rattle.residue_transforms.specs.Code.{AllFit}
 use Rattle.residue_transforms.specs.declared.quant.Quant.{Quant}
+use Rattle.inverse_transforms.proofs.LaneLemmas.{place_more}
 use Rattle.residue_transforms.proofs.Coefs.{at_coefficients}
 
 pub all_under : (levels : List ℤ) (n whole : ℕ) → length levels ≤ n → ((k : ℕ) → k < n → unsigned_abs (at levels k) ≤ whole) →
@@ -69,11 +72,19 @@ products_fit quant tx whole step n dc ac low scales = λ place x under.
     let most : unsigned_abs x * quantiser quant place ≤ whole * step = mul-le-mul under (step_under (nat_eq place 0) quant.dc quant.ac step dc ac) in
     scales (x *ℤ pos (quantiser quant place)) (omega (arith, times, most))
 
-pub product_small : (quant : Quant) (tx : TxSize) (whole place : ℕ) (x : ℤ) → AllFit quant tx whole → unsigned_abs x ≤ whole →
+product_small : (quant : Quant) (tx : TxSize) (whole place : ℕ) (x : ℤ) → AllFit quant tx whole → unsigned_abs x ≤ whole →
     IsSmall (x *ℤ pos (quantiser quant place))
 unfolding coefficient
 product_small quant tx whole place x fit under =
     omega (arith, not_halved tx (x *ℤ pos (quantiser quant place)) (limit_of quant.depth) (fit place x under), limit_small quant.depth)
+
+pub first_small : (quant : Quant) (tx : TxSize) (whole : ℕ) (levels : List ℤ) → AllFit quant tx whole → 0 < length levels →
+    All (λ x. unsigned_abs x ≤ whole) levels → IsSmall (at levels 0 *ℤ pos quant.dc)
+first_small quant tx whole levels fit some under = product_small quant tx whole 0 (at levels 0) fit (under 0 (pos 0) some)
+
+pub others_small : (quant : Quant) (tx : TxSize) (whole : ℕ) (levels : List ℤ) → AllFit quant tx whole → All (λ x. unsigned_abs x ≤ whole) levels →
+    All (λ x. IsSmall (x *ℤ pos quant.ac)) levels
+others_small quant tx whole levels fit under = λ k d low. product_small quant tx whole 1 (get_or levels k d) fit (under k d low)
 
 below_fits : (n : ℕ) (x : ℤ) → unsigned_abs x < n → fits n x ≡ true
 below_fits n (pos x) low = grind (arith, nat_tests)
@@ -88,94 +99,88 @@ coefficients_fit quant tx whole levels fit under =
     (ap (fits (limit_of quant.depth)) (at_coefficients quant tx levels k (omega (arith, size)))
     ∙ below_fits (limit_of quant.depth) (coefficient quant tx k (at levels k)) (fit k (at levels k) (under k (pos 0) (omega (arith, size))))))
 
-either : (first : Bool) (x y z : ℕ) → x ≡ z → y ≡ z → (if first then x else y) ≡ z
-either true x y z x_is y_is = x_is
-either false x y z x_is y_is = y_is
+pub products_tested : (quant : Quant) (tx : TxSize) (whole step n : ℕ) (below : Bool) → quant.dc ≤ step → quant.ac ≤ step → below ≡ nat_lt (whole * step) n →
+    ((x : ℤ) → unsigned_abs x < n → unsigned_abs (scaled tx x) < limit_of quant.depth) → OnTrue below (AllFit quant tx whole)
+products_tested quant tx whole step n true dc ac tested scales = products_fit quant tx whole step n dc ac (ltb-true (whole * step) n (sym tested)) scales
+products_tested quant tx whole step n false dc ac tested scales = tt
 
 -- all places but the first have the step of the others
 other_step : (quant : Quant) (k : ℕ) → 0 < k → quantiser quant k ≡ quant.ac
 other_step quant k past = let other : nat_eq k 0 ≡ false = grind (arith, nat_tests) in rw other refl
 
-same_step : (quant others : Quant) (j k : ℕ) → others.dc ≡ quant.ac → others.ac ≡ quant.ac → 0 < k → quantiser others j ≡ quantiser quant k
-same_step quant others j k dc ac past = either (nat_eq j 0) others.dc others.ac quant.ac dc ac ∙ sym (other_step quant k past)
-
-same_coefficient : (quant others : Quant) (tx : TxSize) (j k : ℕ) (x : ℤ) → others.dc ≡ quant.ac → others.ac ≡ quant.ac → 0 < k →
-    coefficient others tx j x ≡ coefficient quant tx k x
+other_coefficient : (quant : Quant) (tx : TxSize) (k : ℕ) (x : ℤ) → 0 < k → scaled tx (x *ℤ pos quant.ac) ≡ coefficient quant tx k x
 unfolding coefficient
-same_coefficient quant others tx j k x dc ac past = ap (λ z. scaled tx (x *ℤ pos z)) (same_step quant others j k dc ac past)
+other_coefficient quant tx k x past = ap (λ z. scaled tx (x *ℤ pos z)) (sym (other_step quant k past))
 
--- the places from 4 to n are done
-pub record LaterDone (quant : Quant) (tx : TxSize) (old now : List ℤ) (n : ℕ) : Type 0 where
+-- one of the first places
+pub place_small : (quant : Quant) (levels : List ℤ) (k : ℕ) → k < length levels → IsSmall (at levels 0 *ℤ pos quant.dc) →
+    All (λ x. IsSmall (x *ℤ pos quant.ac)) levels → IsSmall (at levels k *ℤ pos (quantiser quant k))
+place_small quant levels k low first others = elim (cases_lt 0 k) [
+  | inl past ↦ subst (λ z. IsSmall (at levels k *ℤ pos z)) (sym (other_step quant k past)) (others k (pos 0) low)
+  | inr least ↦
+      let zero_place : 0 ≡ k = omega arith in
+      subst (λ z. IsSmall (at levels z *ℤ pos (quantiser quant z))) zero_place first
+]
+
+-- the first n places are done by the step of the others
+pub record OthersDone (quant : Quant) (tx : TxSize) (old now : List ℤ) (n : ℕ) : Type 0 where
   pub size : length now ≡ length old
-  pub done : (k : ℕ) → 4 ≤ k → k < n → at now k ≡ coefficient quant tx k (at old k)
-  pub first : (k : ℕ) → k < 4 → at now k ≡ at old k
+  pub done : (k : ℕ) → k < n → at now k ≡ scaled tx (at old k *ℤ pos quant.ac)
   pub rest : (k : ℕ) → n ≤ k → at now k ≡ at old k
 
-pub none_done : (quant : Quant) (tx : TxSize) (old : List ℤ) → LaterDone quant tx old old 4
-none_done quant tx old = record { size = refl; done = λ k past low. absurd (omega arith); first = λ k low. refl; rest = λ k past. refl }
+pub none_done : (quant : Quant) (tx : TxSize) (old : List ℤ) → OthersDone quant tx old old 0
+none_done quant tx old = record { size = refl; done = λ k low. absurd (omega arith); rest = λ k past. refl }
 
--- what a piece of four has put in, and what it has left
-put_in : (from : ℕ) (f : ℕ → ℤ) (old new : List ℤ) (k : ℕ) → HasPiece from 4 f old new → from ≤ k → k < from + 4 → at new k ≡ f (k - from)
-put_in from f old new k piece past low =
-    let within : is_within from 4 k ≡ true = grind (arith, nat_tests) in
-    piece k ∙ ap (λ b. if b then f (k - from) else at old k) within
+others_more : (quant : Quant) (tx : TxSize) (old now : List ℤ) (n : ℕ) (v : ℤ) → n < length now → SFits w32 v →
+    v ≡ scaled tx (at now n *ℤ pos quant.ac) → OthersDone quant tx old now n →
+    OthersDone quant tx old (set now n (to_z w32 (of_z w32 v))) (n + 1)
+others_more quant tx old now n v low in_i32 is s =
+    let value : v ≡ scaled tx (at old n *ℤ pos quant.ac) = is ∙ ap (λ z. scaled tx (z *ℤ pos quant.ac)) (s.rest n (omega arith)) in
+    rw (to_z-of_z w32 v in_i32) record {
+      size = length-set now n v ∙ s.size;
+      done = place_more (λ k. scaled tx (at old k *ℤ pos quant.ac)) now n v low value s.done;
+      rest = λ k past. get_or-set_other now n k v (pos 0) (λ same. omega arith) ∙ s.rest k (omega arith);
+    }
 
-left_before : (from : ℕ) (f : ℕ → ℤ) (old new : List ℤ) (k : ℕ) → HasPiece from 4 f old new → k < from → at new k ≡ at old k
-left_before from f old new k piece low =
-    let outside : is_within from 4 k ≡ false = grind (arith, nat_tests) in
-    piece k ∙ ap (λ b. if b then f (k - from) else at old k) outside
+pub others_step : (quant : Quant) (tx : TxSize) (old now : List ℤ) (n : ℕ) (p v : ℤ) → n < length now → to_z w32 (of_z w32 (at now n)) ≡ at now n →
+    SFits w32 p → SFits w32 v → p ≡ (to_z w32 (of_z w32 (at now n)) *ℤ pos quant.ac) → v ≡ scaled tx (to_z w32 (of_z w32 p)) →
+    OthersDone quant tx old now n → OthersDone quant tx old (set now n (to_z w32 (of_z w32 v))) (n + 1)
+others_step quant tx old now n p v low same p_fits v_fits p_is v_is s =
+    let product : p ≡ (at now n *ℤ pos quant.ac) = p_is ∙ ap (λ z. z *ℤ pos quant.ac) same in
+    others_more quant tx old now n v low v_fits (v_is ∙ ap (scaled tx) (to_z-of_z w32 p p_fits ∙ product)) s
 
-left_behind : (from : ℕ) (f : ℕ → ℤ) (old new : List ℤ) (k : ℕ) → HasPiece from 4 f old new → from + 4 ≤ k → at new k ≡ at old k
-left_behind from f old new k piece past =
-    let outside : is_within from 4 k ≡ false = grind (arith, nat_tests) in
-    piece k ∙ ap (λ b. if b then f (k - from) else at old k) outside
+pub product_small_again : (quant : Quant) (tx : TxSize) (old now : List ℤ) (n : ℕ) → n < length now → to_z w32 (of_z w32 (at now n)) ≡ at now n →
+    All (λ x. IsSmall (x *ℤ pos quant.ac)) old → OthersDone quant tx old now n → IsSmall (to_z w32 (of_z w32 (at now n)) *ℤ pos quant.ac)
+product_small_again quant tx old now n low same small s =
+    subst (λ z. IsSmall (z *ℤ pos quant.ac)) (sym (same ∙ s.rest n (omega arith))) (small n (pos 0) (omega (arith, s.size)))
 
--- four coefficients of four levels
-abbrev Four : Quant → TxSize → List ℤ → ℕ → List ℤ → Type 0
-Four quant tx levels from values = (j : ℕ) → j < 4 → at values j ≡ coefficient quant tx j (at levels (from + j))
+-- what a piece of four at the start has put in, and what it has left
+put_first : (f : ℕ → ℤ) (old new : List ℤ) (k : ℕ) → HasPiece 0 4 f old new → k < 4 → at new k ≡ f k
+put_first f old new k piece low =
+    let within : is_within 0 4 k ≡ true = grind (arith, nat_tests) in
+    let place : k - 0 ≡ k = omega arith in
+    piece k ∙ (ap (λ b. if b then f (k - 0) else at old k) within ∙ ap f place)
 
-made_in : (quant : Quant) (tx : TxSize) (now new values : List ℤ) (from k : ℕ) → Four quant tx now from values → HasPiece from 4 (λ j. at values j) now new →
-    from ≤ k → k < from + 4 → at new k ≡ coefficient quant tx (k - from) (at now k)
-made_in quant tx now new values from k made piece past low =
-    let place : from + (k - from) ≡ k = omega arith in
-    put_in from (λ j. at values j) now new k piece past low
-    ∙ (made (k - from) (omega arith) ∙ ap (λ z. coefficient quant tx (k - from) (at now z)) place)
-
-pub later_more : (quant others : Quant) (tx : TxSize) (old now new values : List ℤ) (n : ℕ) → others.dc ≡ quant.ac → others.ac ≡ quant.ac → 4 ≤ n →
-    length new ≡ length now → Four others tx now n values → HasPiece n 4 (λ j. at values j) now new → LaterDone quant tx old now n →
-    LaterDone quant tx old new (n + 4)
-later_more quant others tx old now new values n dc ac some size made piece s = record {
-  size = size ∙ s.size;
-  done = λ k past low. elim (cases_lt k n) [
-    | inl before ↦ left_before n (λ j. at values j) now new k piece before ∙ s.done k past before
-    | inr behind ↦ made_in others tx now new values n k made piece (omega arith) low
-        ∙ (same_coefficient quant others tx (k - n) k (at now k) dc ac (omega arith) ∙ ap (coefficient quant tx k) (s.rest k (omega arith)))
-  ];
-  first = λ k low. left_before n (λ j. at values j) now new k piece (omega arith) ∙ s.first k low;
-  rest = λ k past. left_behind n (λ j. at values j) now new k piece past ∙ s.rest k (omega arith);
-}
+left_behind : (f : ℕ → ℤ) (old new : List ℤ) (k : ℕ) → HasPiece 0 4 f old new → 4 ≤ k → at new k ≡ at old k
+left_behind f old new k piece past =
+    let outside : is_within 0 4 k ≡ false = grind (arith, nat_tests) in
+    piece k ∙ ap (λ b. if b then f (k - 0) else at old k) outside
 
 -- the first four are put in last
 pub all_made : (quant : Quant) (tx : TxSize) (old now new values : List ℤ) (n : ℕ) → length old ≤ n → length new ≡ length now →
-    Four quant tx now 0 values → HasPiece 0 4 (λ j. at values j) now new → LaterDone quant tx old now n → new ≡ coefficients quant tx old
+    ((k : ℕ) → k < 4 → at values k ≡ coefficient quant tx k (at old k)) → HasPiece 0 4 (λ k. at values k) now new → OthersDone quant tx old now n →
+    new ≡ coefficients quant tx old
 all_made quant tx old now new values n past size made piece s =
     let long = length-map-range_with_len (λ place. coefficient quant tx place (at old place)) 0 (length old) in
     ext_get_or (pos 0) new (coefficients quant tx old) (size ∙ (s.size ∙ sym long)) (λ k low.
     elim (cases_lt k 4) [
-      | inl first ↦
-          let place : k - 0 ≡ k = omega arith in
-          made_in quant tx now new values 0 k made piece (omega arith) (omega arith)
-          ∙ (ap (λ z. coefficient quant tx z (at now k)) place ∙ ap (coefficient quant tx k) (s.first k first))
-      | inr later ↦ left_behind 0 (λ j. at values j) now new k piece (omega arith) ∙ s.done k (omega arith) (omega (arith, size, s.size))
+      | inl first ↦ put_first (λ k. at values k) now new k piece first ∙ made k first
+      | inr later ↦ left_behind (λ k. at values k) now new k piece (omega arith)
+          ∙ (s.done k (omega (arith, size, s.size)) ∙ other_coefficient quant tx k (at old k) (omega arith))
     ] ∙ sym (at_coefficients quant tx old k (omega (arith, size, s.size))))
 
-pub fours : (tx : TxSize) → (4 ≤ area tx) × (area tx % 4 ≡ 0)
-fours T4x4 = (omega arith, refl)
-fours T8x8 = (omega arith, refl)
-fours T16x16 = (omega arith, refl)
-fours T32x32 = (omega arith, refl)
-
-pub products_tested : (quant : Quant) (tx : TxSize) (whole step n : ℕ) (below : Bool) → quant.dc ≤ step → quant.ac ≤ step → below ≡ nat_lt (whole * step) n →
-    ((x : ℤ) → unsigned_abs x < n → unsigned_abs (scaled tx x) < limit_of quant.depth) → OnTrue below (AllFit quant tx whole)
-products_tested quant tx whole step n true dc ac tested scales = products_fit quant tx whole step n dc ac (ltb-true (whole * step) n (sym tested)) scales
-products_tested quant tx whole step n false dc ac tested scales = tt
+pub four_places : (tx : TxSize) → 4 ≤ area tx
+four_places T4x4 = omega arith
+four_places T8x8 = omega arith
+four_places T16x16 = omega arith
+four_places T32x32 = omega arith

@@ -1,6 +1,6 @@
-//! Levels that are known to give coefficients that fit, as nearly all do: they are multiplied in 32 bits, four at a time.
+//! Levels that are known to give coefficients that fit, as nearly all do: they are multiplied in 32 bits, and none is tested.
 
-ghost use Rattle.std.specs.Prelude.{◌≡◌, ℕ, ◌+◌, ◌%◌, ◌<◌, ◌≤◌, ℤ, ◌*ℤ◌, pos, unsigned_abs, length, All};
+ghost use Rattle.std.specs.Prelude.{◌≡◌, ℕ, ◌<◌, ◌≤◌, ℤ, ◌*ℤ◌, pos, unsigned_abs, length, All};
 ghost use Rattle.std.specs.Bool.{OnTrue};
 ghost use Rattle.inverse_transforms.specs.Flow.{at};
 ghost use Rattle.inverse_transforms.specs.Ranges.{IsSmall, limit_of};
@@ -76,37 +76,33 @@ fn small_coefficient(level: i32, place: usize, tx: TxSize, quant: Quant) -> i32
     scaled(product(level, step_of(quant, place)), tx)
 }
 
-/// The coefficients of four levels, of which the first has the step of a block's first.
+/// The coefficients of the first four levels.
 #[inline(always)]
-fn four_coefficients(levels: &[i32], from: usize, tx: TxSize, quant: Quant) -> [i32; 4]
-    requires room { from + 4 ≤ length levels.now }
-    requires small { (j : ℕ) → j < 4 → IsSmall (at levels.now (from + j) *ℤ pos (quantiser quant j)) }
-    ensures { (j : ℕ) → j < 4 → at result j ≡ coefficient quant tx j (at levels.now (from + j)) }
+fn first_four(levels: &[i32], tx: TxSize, quant: Quant) -> [i32; 4]
+    requires some { 4 ≤ length levels.now }
+    requires first { IsSmall (at levels.now 0 *ℤ pos quant.dc) }
+    requires others { All (λ x. IsSmall (x *ℤ pos quant.ac)) levels.now }
+    ensures { (k : ℕ) → k < 4 → at result k ≡ coefficient quant tx k (at levels.now k) }
 {
     let mut values = [0; 4];
-    for j in 0..4usize {
-        values[j] = small_coefficient(levels[from + j], j, tx, quant);
+    for place in 0..4usize {
+        values[place] = small_coefficient(levels[place], place, tx, quant);
     }
     values
 }
 
-/// Makes coefficients of levels whose products are small. All four steps are those of the others but in the first four
-/// places.
+/// Makes coefficients of levels whose products are small: all by the step of the others, and then the first four anew, of
+/// which the first has its own.
 #[inline(always)]
 pub fn scale(block: &mut [i32], tx: TxSize, quant: Quant)
     requires some { 4 ≤ length block.old }
-    requires fours { length block.old % 4 ≡ 0 }
-    requires small { (k : ℕ) → k < length block.old → IsSmall (at block.old k *ℤ pos (quantiser quant k)) }
+    requires first { IsSmall (at block.old 0 *ℤ pos quant.dc) }
+    requires others { All (λ x. IsSmall (x *ℤ pos quant.ac)) block.old }
     ensures { block.new ≡ coefficients quant tx block.old }
 {
-    let others = Quant {
-        dc: quant.ac,
-        ..quant
-    };
-    for four in 1..block.len() / 4 {
-        let values = four_coefficients(block, four * 4, tx, others);
-        put_four(block, four * 4, &values);
+    let first = first_four(block, tx, quant);
+    for place in 0..block.len() {
+        block[place] = scaled(product(block[place], quant.ac), tx);
     }
-    let values = four_coefficients(block, 0, tx, quant);
-    put_four(block, 0, &values);
+    put_four(block, 0, &first);
 }

@@ -1,16 +1,21 @@
-use Rattle.std.proofs.Common.{◌≡◌, ◌+◌, ◌*◌, arith, refl, rules, subst}
-use Rattle.residue_transforms.proofs.Scales.{LaterDone, later_more, all_made}
+use Rattle.std.proofs.Common.{◌≡◌, to_z, of_z, arith, rules}
+use mir.Syntax.{w32}
+use Rattle.inverse_transforms.specs.Flow.{at}
+use Rattle.residue_transforms.proofs.Scales.{others_step, product_small_again, all_made}
 use Rattle.residue_transforms.proofs.scale.scale.Goals as goal
 
-pub loop-four-preserved : goal.loop-four-preserved
-loop-four-preserved c =
-    let place : c.loop-four.four * 4 + 4 ≡ (c.loop-four.four + 1) * 4 = omega arith in
-    subst (LaterDone c.args.quant c.args.tx c.args.block.now c.put_four.new.to) place
-    (later_more c.args.quant (record { dc = c.args.quant.ac; ac = c.args.quant.ac; depth = c.args.quant.depth; lossless = c.args.quant.lossless }) c.args.tx
-    c.args.block.now c.loop-four.block c.put_four.new.to c.four_coefficients-values.result (c.loop-four.four * 4) refl refl (omega (arith, c.loop-four.auto.four))
-    (search rules) c.four_coefficients-values.ensures c.put_four.ensures c.loop-four.invariant)
+pub product-requires : goal.product-requires
+product-requires c =
+    let same : to_z w32 (of_z w32 (at c.loop-place.block c.loop-place.place)) ≡ at c.loop-place.block c.loop-place.place = search rules in
+    product_small_again c.args.quant c.args.tx c.args.block.now c.loop-place.block c.loop-place.place (omega arith) same c.requires.others c.loop-place.invariant
+
+pub loop-place-preserved : goal.loop-place-preserved
+loop-place-preserved c =
+    let same : to_z w32 (of_z w32 (at c.loop-place.block c.loop-place.place)) ≡ at c.loop-place.block c.loop-place.place = search rules in
+    others_step c.args.quant c.args.tx c.args.block.now c.loop-place.block c.loop-place.place c.product.result c.scaled.result (omega arith) same
+    (search rules) (search rules) c.product.ensures.value c.scaled.ensures c.loop-place.invariant
 
 pub returns : goal.returns
 returns c =
-    all_made c.args.quant c.args.tx c.args.block.now c.loop-four.block c.put_four-2.new.to c.four_coefficients-values-2.result (c.loop-four.four * 4)
-    (omega (arith, c.requires.fours, c.loop-four-test.false)) (search rules) c.four_coefficients-values-2.ensures c.put_four-2.ensures c.loop-four.invariant
+    all_made c.args.quant c.args.tx c.args.block.now c.loop-place.block c.put_four.new.to c.first_four-first.result c.loop-place.place (omega arith) (search rules)
+    c.first_four-first.ensures c.put_four.ensures c.loop-place.invariant

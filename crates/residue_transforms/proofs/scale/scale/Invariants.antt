@@ -1,6 +1,5 @@
-use Rattle.std.proofs.Common.{◌*◌}
-use Rattle.residue_transforms.proofs.Scales.{LaterDone}
+use Rattle.residue_transforms.proofs.Scales.{OthersDone}
 use Rattle.residue_transforms.proofs.scale.scale.Given as goal
 
-abbrev pub invariant-loop-four : goal.invariant-loop-four
-invariant-loop-four l = LaterDone l.quant l.tx l.initial.block l.block (l.four * 4)
+abbrev pub invariant-loop-place : goal.invariant-loop-place
+invariant-loop-place l = OthersDone l.quant l.tx l.initial.block l.block l.place
