@@ -2,3 +2,4 @@ pub mod SquareBlocks
 pub mod First
 pub mod Fours
 pub mod Residue
+pub mod Code

@@ -1,5 +1,5 @@
 -- From levels to residue: dequantisation (8.6.2 of the standard), then the transforms of rows and columns (8.7.2).
-use Rattle.std.specs.Prelude.{ℕ, ◌/◌, ◌^◌, ℤ, pos, ◌+ℤ◌, ◌*ℤ◌, Bool, true, false, List, map, Result, Ok, Err, if◌then◌else◌, nat_eq, nat_le, ◌&&◌, int_div, length, unsigned_abs, ◌<◌, ◌≤◌, ◌≡◌}
+use Rattle.std.specs.Prelude.{ℕ, ◌/◌, ◌^◌, ℤ, pos, ◌+ℤ◌, ◌*ℤ◌, Bool, true, false, List, map, Result, Ok, Err, if◌then◌else◌, nat_eq, nat_le, ◌&&◌, int_div, length, unsigned_abs, ◌<◌, ◌≡◌}
 use Rattle.std.specs.Int.{int_shr}
 use Rattle.std.specs.List.{list_all, range_with_len}
 use Rattle.vp9_types.specs.declared.rule.Rule.{Rule}
@@ -35,10 +35,6 @@ coefficients quant tx levels = map (λ place. coefficient quant tx place (at lev
 -- what a token can be
 abbrev pub IsLevel : ℤ → Type 0
 IsLevel x = unsigned_abs x < 2 ^ 20
-
--- its product with any step is below 2 ^ 31
-abbrev pub IsShort : ℤ → Type 0
-IsShort x = unsigned_abs x ≤ 2 ^ 14
 
 -- a value that fits is kept, and another one breaks rule 22
 abbrev pub Fitting : ℕ → ℤ → Result ℤ Rule → Type 0

@@ -1,12 +1,12 @@
 //! From levels to coefficients.
 
-ghost use Rattle.std.specs.Prelude.{◌≡◌, ℕ, ◌+◌, ◌*◌, ◌^◌, ◌<◌, ◌≤◌, ◌*ℤ◌, pos, unsigned_abs, length, All};
-ghost use Rattle.std.specs.Bool.{OnTrue};
-ghost use Rattle.inverse_transforms.specs.Ranges.{fits, limit_of};
-ghost use Rattle.residue_transforms.specs.Residue.{IsLevel, IsShort, scaled, quantiser, coefficient, Fitting, Dequantises};
+ghost use Rattle.std.specs.Prelude.{◌≡◌, ℕ, ◌+◌, ◌*◌, ◌^◌, ◌≤◌, ◌*ℤ◌, pos, unsigned_abs, length, All};
+ghost use Rattle.inverse_transforms.specs.Ranges.{limit_of};
+ghost use Rattle.vp9_tables.specs.Scans.{area};
+ghost use Rattle.residue_transforms.specs.Residue.{IsLevel, scaled, coefficient, Fitting, Dequantises};
 
-use crate::quant::Quant;
-use crate::scale::scale;
+use crate::quant::{Quant, step_of};
+use crate::scale::{all_fit, scale};
 use inverse_transforms::limit_of;
 use vp9_types::{Depth, Rule, TxSize};
 
@@ -45,13 +45,6 @@ fn fitting(x: i64, depth: Depth) -> Result<i32, Rule>
     Ok(x as i32)
 }
 
-#[inline(always)]
-fn step_of(quant: Quant, place: usize) -> u16
-    ensures { result ≡ quantiser quant place }
-{
-    if place == 0 { quant.dc } else { quant.ac }
-}
-
 /// What a level becomes.
 #[inline(always)]
 #[tactic(auto, unfolding(crate::specs::Residue::coefficient))]
@@ -77,32 +70,17 @@ fn dequantise_any(block: &mut [i32], tx: TxSize, quant: Quant) -> Result<(), Rul
     Ok(())
 }
 
-/// The coefficients of short levels: all are multiplied as those behind the first are, which is put in afterwards.
+/// The coefficients of levels of at most such a magnitude, in their places.
 #[inline(always)]
-fn dequantise_short(block: &mut [i32], tx: TxSize, quant: Quant) -> Result<(), Rule>
-    requires some { 0 < length block.old }
-    requires short { All IsShort block.old }
-    ensures { Dequantises quant tx block.old result block.new }
-{
-    let first = coefficient(block[0], 0, tx, quant)?;
-    block[0] = 0;
-    if scale(block, quant.ac, tx, limit_of(quant.depth)) {
-        block[0] = first;
-        return Ok(());
-    }
-    Err(Rule::CoefRange)
-}
-
-/// The coefficients of levels, in their places. Where `short` is true, all are short.
-#[inline(always)]
-pub fn dequantise(block: &mut [i32], short: bool, tx: TxSize, quant: Quant) -> Result<(), Rule>
-    requires some { 0 < length block.old }
+pub fn dequantise(block: &mut [i32], whole: u32, tx: TxSize, quant: Quant) -> Result<(), Rule>
+    requires size { length block.old ≡ area tx }
     requires levels { All IsLevel block.old }
-    requires short { OnTrue short (All IsShort block.old) }
+    requires whole { All (λ x. unsigned_abs x ≤ whole) block.old }
     ensures { Dequantises quant tx block.old result block.new }
 {
-    if short {
-        return dequantise_short(block, tx, quant);
+    if all_fit(whole, tx, quant) {
+        scale(block, tx, quant);
+        return Ok(());
     }
     dequantise_any(block, tx, quant)
 }

@@ -90,8 +90,9 @@ fn put_eight(to: &mut [i32], place: usize, values: &Lanes)
     to[place..place + 8].copy_from_slice(values);
 }
 
+/// Puts four values from a place on.
 #[inline(always)]
-fn put_four(to: &mut [i32], place: usize, values: &[i32; 4])
+pub fn put_four(to: &mut [i32], place: usize, values: &[i32; 4])
     requires { place + 4 ≤ length to.old }
     ensures { HasPiece place 4 (λ j. at values.now j) to.old to.new }
 {

@@ -1,19 +1,18 @@
 //! From levels to residue.
 
 ghost use Rattle.std.specs.Prelude.{◌≡◌, ◌+◌, ◌*◌, ◌^◌, ◌≤◌, ◌<◌, length, unsigned_abs, All, IsTrue, OnOk};
-ghost use Rattle.std.specs.Bool.{OnTrue};
 ghost use Rattle.inverse_transforms.specs.Flow.{Gives};
 ghost use Rattle.inverse_transforms.specs.Ranges.{IsSmall};
 ghost use Rattle.vp9_tables.specs.Scans.{area};
 ghost use Rattle.vp9_types.specs.Sizes.{side};
-ghost use Rattle.residue_transforms.specs.Residue.{IsLevel, IsShort, has_size, log2_of, rounding_bits, kind_of_rows, kind_of_columns, reconstructed, residue};
+ghost use Rattle.residue_transforms.specs.Residue.{IsLevel, has_size, log2_of, rounding_bits, kind_of_rows, kind_of_columns, reconstructed, residue};
 ghost use Rattle.residue_transforms.specs.First.{IsFirstAlone, AreCosines};
 
 use crate::dequantise::dequantise;
 use crate::first::{flatten, is_flat};
 use crate::kind::{kind_of_columns, kind_of_rows, log2_of, rounding_bits};
 use crate::quant::Quant;
-use crate::scale::{are_short, whole_of};
+use crate::scale::whole_of;
 use crate::turn::{Pass, turn_rows};
 use vp9_types::{Rule, TxSize, TxType};
 
@@ -102,23 +101,23 @@ fn flat_residue(block: &mut [i32], tx: TxSize, kind: TxType, quant: Quant) -> Re
     flatten(block, tx, quant)
 }
 
-/// The residue of any levels, which are short where `short` is true.
+/// The residue of any levels of at most such a magnitude.
 #[inline(always)]
 #[tactic(auto, unfolding(crate::specs::Residue::residue))]
 fn whole_residue(
     block: &mut [i32],
-    short: bool,
+    whole: u32,
     tx: TxSize,
     kind: TxType,
     quant: Quant,
 ) -> Result<(), Rule>
     requires size { length block.old ≡ area tx }
     requires levels { All IsLevel block.old }
-    requires short { OnTrue short (All IsShort block.old) }
+    requires whole { All (λ x. unsigned_abs x ≤ whole) block.old }
     ensures gives { Gives (residue quant tx kind block.old) result block.new }
     ensures small { OnOk result (All (λ x. unsigned_abs x < 2 ^ 24) block.new) }
 {
-    dequantise(block, short, tx, quant)?;
+    dequantise(block, whole, tx, quant)?;
     reconstruct(block, tx, kind, quant)
 }
 
@@ -133,8 +132,8 @@ fn small_residue(block: &mut [i32], tx: TxSize, kind: TxType, quant: Quant) -> R
     if is_flat(block, tx, kind, quant) {
         return flat_residue(block, tx, kind, quant);
     }
-    let short = are_short(block);
-    whole_residue(block, short, tx, kind, quant)
+    let whole = whole_of(block);
+    whole_residue(block, whole, tx, kind, quant)
 }
 
 /// Looks at the levels once, and again only where the first has all bits that any magnitude has, as it has if it is alone.
@@ -149,7 +148,7 @@ fn large_residue(block: &mut [i32], tx: TxSize, kind: TxType, quant: Quant) -> R
     if block[0].unsigned_abs() == whole && is_flat(block, tx, kind, quant) {
         return flat_residue(block, tx, kind, quant);
     }
-    whole_residue(block, whole <= 16384, tx, kind, quant)
+    whole_residue(block, whole, tx, kind, quant)
 }
 
 /// Makes the residue of a block's levels, both row by row. A value that doesn't fit before the transforms is
