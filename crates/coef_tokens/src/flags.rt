@@ -1,7 +1,7 @@
 //! The rows of flags above and on the left that say where coefficients are, one flag for each four samples of a plane.
 //! A row ends where the frame does.
 
-ghost use Rattle.std.specs.Prelude.{◌≡◌, ◌+◌, ◌≤◌, take, drop, length};
+ghost use Rattle.std.specs.Prelude.{◌≡◌, ◌+◌, ◌≤◌, length};
 ghost use Rattle.std.specs.List.{list_any};
 ghost use Rattle.coef_tokens.specs.Flags.{flags_of, any_set, sides_set, marked};
 

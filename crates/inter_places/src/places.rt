@@ -1,6 +1,6 @@
 //! Places of the parts of blocks.
 
-ghost use Rattle.std.specs.Prelude.{◌≡◌, ℕ, ◌*◌, ◌/◌, ◌+◌, ◌<◌, ◌≤◌, ◌^◌, false, unsigned_abs};
+ghost use Rattle.std.specs.Prelude.{◌≡◌, ◌*◌, ◌/◌, ◌+◌, ◌<◌, ◌≤◌, ◌^◌, false, unsigned_abs};
 ghost use Rattle.block_geometry.specs.BlockSizes.{is_below_8x8};
 ghost use Rattle.inter_places.specs.Axes.{IsAxis, IsPlace};
 ghost use Rattle.inter_places.specs.PlaneVectors.{IsSpan};

@@ -6,7 +6,7 @@ ghost use Rattle.block_plan.specs.BlockMvs.{clip3};
 ghost use Rattle.std.specs.Int.{int_shr};
 ghost use Rattle.inter_places.specs.Axes.{IsAxis};
 ghost use Rattle.inter_places.specs.PlaneVectors.{IsSpan, clamped_vector, in_sixteenths, spel};
-ghost use Rattle.inter_places.specs.Scaling.{IsInScale, x_scale, base_x, luma_x, frac_x, d_x, start_x, step_x, axis_of, span_start};
+ghost use Rattle.inter_places.specs.Scaling.{IsInScale, x_scale, base_x, luma_x, frac_x, d_x, start_x, axis_of, span_start};
 
 use crate::axis::Axis;
 use crate::span::{BlockSpan, clamp_mv, in_sixteenths, reach};

@@ -2,7 +2,7 @@
 
 ghost use Rattle.std.specs.Prelude.{◌≡◌, ◌+◌, ◌-◌, ◌*◌, ◌≤◌};
 ghost use Rattle.vp9_types.specs.Maps.{IsAtMost};
-ghost use Rattle.planes.specs.Planes.{plane_map, with_part, lower_end, right_end};
+ghost use Rattle.planes.specs.Planes.{plane_map};
 ghost use Rattle.line_filter.specs.declared.edge.FilterWidth.TheVariants.{Sixteen};
 ghost use Rattle.line_filter.specs.declared.edge.Pass.TheVariants.{Vertical, Horizontal};
 ghost use Rattle.line_filter.specs.Lines.{filtered_near, filtered_line};

@@ -1,13 +1,13 @@
 //! How a square is partitioned.
 
-ghost use Rattle.std.specs.Prelude.{◌≡◌, ◌+◌, ◌-◌, ◌*◌, ◌/◌, ◌^◌, ◌<◌, ◌≤◌, ℕ, List, length, nat_lt, slice_index};
+ghost use Rattle.std.specs.Prelude.{◌≡◌, ◌+◌, ◌-◌, ◌*◌, ◌/◌, ◌^◌, ◌<◌, ◌≤◌, ℕ, List, length, nat_lt};
 ghost use Rattle.std.specs.List.{list_any};
 ghost use Rattle.std.specs.Option.{option_copied};
 ghost use Rattle.counting_reader.specs.Counting.{count};
 ghost use Rattle.counting_reader.specs.Code.{Reads};
 ghost use Rattle.counting_reader.specs.CountedSymbols.{counted_symbol};
 ghost use Rattle.prob_contexts.specs.ProbLists.{lists_of};
-ghost use Rattle.mode_syntax.specs.Partitions.{partition_of, split_or, whole_symbol, edge_symbol, partition_value, partition, half_of, partition_probs, width_beside, height_beside, widths_above, heights_left, square_context, partition_at};
+ghost use Rattle.mode_syntax.specs.Partitions.{partition_of, whole_symbol, edge_symbol, partition_value, partition, partition_probs, width_beside, height_beside, widths_above, heights_left, square_context, partition_at};
 ghost use Rattle.prob_contexts.specs.declared.kind.ProbKind.TheVariants as kind;
 ghost use Rattle.vp9_tables.specs.Numbers.{partition_number};
 ghost use Rattle.vp9_tables.specs.SymbolTrees.{partition_tree};

@@ -1,6 +1,6 @@
 //! From levels to coefficients.
 
-ghost use Rattle.std.specs.Prelude.{◌≡◌, ℕ, ◌+◌, ◌*◌, ◌^◌, ◌≤◌, ◌*ℤ◌, pos, unsigned_abs, length, All};
+ghost use Rattle.std.specs.Prelude.{◌≡◌, ◌+◌, ◌*◌, ◌^◌, ◌≤◌, ◌*ℤ◌, pos, unsigned_abs, length, All};
 ghost use Rattle.inverse_transforms.specs.Ranges.{limit_of};
 ghost use Rattle.vp9_tables.specs.Scans.{area};
 ghost use Rattle.residue_transforms.specs.Residue.{IsLevel, scaled, coefficient, Fitting, Dequantises};
