@@ -122,21 +122,6 @@ fn whole_residue(
     reconstruct(block, tx, kind, quant)
 }
 
-/// Looks at the levels twice, which costs little where they are few.
-#[inline(always)]
-fn small_residue(block: &mut [i32], tx: TxSize, kind: TxType, quant: Quant) -> Result<(), Rule>
-    requires size { length block.old ≡ area tx }
-    requires levels { All IsLevel block.old }
-    ensures gives { Gives (residue quant tx kind block.old) result block.new }
-    ensures small { OnOk result (All (λ x. unsigned_abs x < 2 ^ 24) block.new) }
-{
-    if is_flat(block, tx, kind, quant) {
-        return flat_residue(block, tx, kind, quant);
-    }
-    let whole = whole_of(block);
-    whole_residue(block, whole, tx, kind, quant)
-}
-
 /// Looks at the levels once, and again only where the first has all bits that any magnitude has, as it has if it is alone.
 #[inline(always)]
 fn sized_residue(block: &mut [i32], tx: TxSize, kind: TxType, quant: Quant) -> Result<(), Rule>
@@ -152,7 +137,7 @@ fn sized_residue(block: &mut [i32], tx: TxSize, kind: TxType, quant: Quant) -> R
     whole_residue(block, whole, tx, kind, quant)
 }
 
-/// Of a block of 8x8: its loops are of known length.
+/// The residue of a block of 8x8, by loops of known length.
 #[inline(never)]
 fn middle_residue(block: &mut [i32], kind: TxType, quant: Quant) -> Result<(), Rule>
     requires size { length block.old ≡ 64 }
@@ -163,7 +148,7 @@ fn middle_residue(block: &mut [i32], kind: TxType, quant: Quant) -> Result<(), R
     sized_residue(&mut block[..64], TxSize::T8x8, kind, quant)
 }
 
-/// Of a larger block.
+/// The residue of a larger block.
 #[inline(never)]
 fn large_residue(block: &mut [i32], tx: TxSize, kind: TxType, quant: Quant) -> Result<(), Rule>
     requires size { length block.old ≡ area tx }
@@ -185,7 +170,7 @@ pub fn residue(block: &mut [i32], tx: TxSize, kind: TxType, quant: Quant) -> Res
 {
     // Most blocks are the smallest, and their loops are of known length where the caller knows the size.
     match tx {
-        TxSize::T4x4 => small_residue(block, tx, kind, quant),
+        TxSize::T4x4 => sized_residue(block, tx, kind, quant),
         TxSize::T8x8 => middle_residue(block, kind, quant),
         TxSize::T16x16 | TxSize::T32x32 => large_residue(block, tx, kind, quant),
     }
