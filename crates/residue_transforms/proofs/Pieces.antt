@@ -35,6 +35,9 @@ later : (at_k at_i n first width j k i : ℕ) → first + width ≤ n → at_i +
     is_within (at_i + first) width (at_k + j) ≡ (nat_eq k i && is_within first width j)
 later at_k at_i n first width j k i room apart other = grind (arith, nat_tests)
 
+pub no_piece : (place : ℕ) (f : ℕ → ℤ) (old : List ℤ) → HasPiece place 0 f old old
+no_piece place f old p = let none : is_within place 0 p ≡ false = grind (arith, nat_tests) in rw none refl
+
 pub piece_more : (place j : ℕ) (f : ℕ → ℤ) (old now : List ℤ) (v : ℤ) → place + j < length now → v ≡ f j →
     HasPiece place j f old now → HasPiece place (j + 1) f old (set now (place + j) v)
 piece_more place j f old now v low is so_far p =

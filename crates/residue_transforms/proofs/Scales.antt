@@ -112,24 +112,11 @@ other_coefficient : (quant : Quant) (tx : TxSize) (k : ℕ) (x : ℤ) → 0 < k 
 unfolding coefficient
 other_coefficient quant tx k x past = ap (λ z. scaled tx (x *ℤ pos z)) (sym (other_step quant k past))
 
--- one of the first places
-pub place_small : (quant : Quant) (levels : List ℤ) (k : ℕ) → k < length levels → IsSmall (at levels 0 *ℤ pos quant.dc) →
-    All (λ x. IsSmall (x *ℤ pos quant.ac)) levels → IsSmall (at levels k *ℤ pos (quantiser quant k))
-place_small quant levels k low first others = elim (cases_lt 0 k) [
-  | inl past ↦ subst (λ z. IsSmall (at levels k *ℤ pos z)) (sym (other_step quant k past)) (others k (pos 0) low)
-  | inr least ↦
-      let zero_place : 0 ≡ k = omega arith in
-      subst (λ z. IsSmall (at levels z *ℤ pos (quantiser quant z))) zero_place first
-]
-
 -- the first n places are done by the step of the others
 pub record OthersDone (quant : Quant) (tx : TxSize) (old now : List ℤ) (n : ℕ) : Type 0 where
   pub size : length now ≡ length old
   pub done : (k : ℕ) → k < n → at now k ≡ scaled tx (at old k *ℤ pos quant.ac)
   pub rest : (k : ℕ) → n ≤ k → at now k ≡ at old k
-
-pub none_done : (quant : Quant) (tx : TxSize) (old : List ℤ) → OthersDone quant tx old old 0
-none_done quant tx old = record { size = refl; done = λ k low. absurd (omega arith); rest = λ k past. refl }
 
 others_more : (quant : Quant) (tx : TxSize) (old now : List ℤ) (n : ℕ) (v : ℤ) → n < length now → SFits w32 v →
     v ≡ scaled tx (at now n *ℤ pos quant.ac) → OthersDone quant tx old now n →

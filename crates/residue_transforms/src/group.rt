@@ -87,7 +87,9 @@ fn put_eight(to: &mut [i32], place: usize, values: &Lanes)
     requires { place + 8 ≤ length to.old }
     ensures { HasPiece place 8 (λ j. at values.now j) to.old to.new }
 {
-    to[place..place + 8].copy_from_slice(values);
+    for j in 0..8usize {
+        to[place + j] = values[j];
+    }
 }
 
 /// Puts four values from a place on.
@@ -96,7 +98,9 @@ pub fn put_four(to: &mut [i32], place: usize, values: &[i32; 4])
     requires { place + 4 ≤ length to.old }
     ensures { HasPiece place 4 (λ j. at values.now j) to.old to.new }
 {
-    to[place..place + 4].copy_from_slice(values);
+    for j in 0..4usize {
+        to[place + j] = values[j];
+    }
 }
 
 /// Puts rows of lanes into eight columns of a block, rounded.

@@ -5,6 +5,7 @@ ghost use Rattle.inverse_transforms.specs.Flow.{Gives};
 ghost use Rattle.inverse_transforms.specs.Ranges.{IsSmall};
 ghost use Rattle.vp9_tables.specs.Scans.{area};
 ghost use Rattle.vp9_types.specs.Sizes.{side};
+ghost use Rattle.vp9_types.specs.declared.block.TxSize.TheVariants.{T8x8};
 ghost use Rattle.residue_transforms.specs.Residue.{IsLevel, has_size, log2_of, rounding_bits, kind_of_rows, kind_of_columns, reconstructed, residue};
 ghost use Rattle.residue_transforms.specs.First.{IsFirstAlone, AreCosines};
 
@@ -121,24 +122,9 @@ fn whole_residue(
     reconstruct(block, tx, kind, quant)
 }
 
-/// Looks at the levels twice, which costs little where they are few.
-#[inline(always)]
-fn small_residue(block: &mut [i32], tx: TxSize, kind: TxType, quant: Quant) -> Result<(), Rule>
-    requires size { length block.old ≡ area tx }
-    requires levels { All IsLevel block.old }
-    ensures gives { Gives (residue quant tx kind block.old) result block.new }
-    ensures small { OnOk result (All (λ x. unsigned_abs x < 2 ^ 24) block.new) }
-{
-    if is_flat(block, tx, kind, quant) {
-        return flat_residue(block, tx, kind, quant);
-    }
-    let whole = whole_of(block);
-    whole_residue(block, whole, tx, kind, quant)
-}
-
 /// Looks at the levels once, and again only where the first has all bits that any magnitude has, as it has if it is alone.
-#[inline(never)]
-fn large_residue(block: &mut [i32], tx: TxSize, kind: TxType, quant: Quant) -> Result<(), Rule>
+#[inline(always)]
+fn sized_residue(block: &mut [i32], tx: TxSize, kind: TxType, quant: Quant) -> Result<(), Rule>
     requires size { length block.old ≡ area tx }
     requires levels { All IsLevel block.old }
     ensures gives { Gives (residue quant tx kind block.old) result block.new }
@@ -149,6 +135,28 @@ fn large_residue(block: &mut [i32], tx: TxSize, kind: TxType, quant: Quant) -> R
         return flat_residue(block, tx, kind, quant);
     }
     whole_residue(block, whole, tx, kind, quant)
+}
+
+/// The residue of a block of 8x8, by loops of known length.
+#[inline(never)]
+fn middle_residue(block: &mut [i32], kind: TxType, quant: Quant) -> Result<(), Rule>
+    requires size { length block.old ≡ 64 }
+    requires levels { All IsLevel block.old }
+    ensures gives { Gives (residue quant T8x8 kind block.old) result block.new }
+    ensures small { OnOk result (All (λ x. unsigned_abs x < 2 ^ 24) block.new) }
+{
+    sized_residue(&mut block[..64], TxSize::T8x8, kind, quant)
+}
+
+/// The residue of a larger block.
+#[inline(never)]
+fn large_residue(block: &mut [i32], tx: TxSize, kind: TxType, quant: Quant) -> Result<(), Rule>
+    requires size { length block.old ≡ area tx }
+    requires levels { All IsLevel block.old }
+    ensures gives { Gives (residue quant tx kind block.old) result block.new }
+    ensures small { OnOk result (All (λ x. unsigned_abs x < 2 ^ 24) block.new) }
+{
+    sized_residue(block, tx, kind, quant)
 }
 
 /// Makes the residue of a block's levels, both row by row. A value that doesn't fit before the transforms is
@@ -162,7 +170,8 @@ pub fn residue(block: &mut [i32], tx: TxSize, kind: TxType, quant: Quant) -> Res
 {
     // Most blocks are the smallest, and their loops are of known length where the caller knows the size.
     match tx {
-        TxSize::T4x4 => small_residue(block, tx, kind, quant),
-        TxSize::T8x8 | TxSize::T16x16 | TxSize::T32x32 => large_residue(block, tx, kind, quant),
+        TxSize::T4x4 => sized_residue(block, tx, kind, quant),
+        TxSize::T8x8 => middle_residue(block, kind, quant),
+        TxSize::T16x16 | TxSize::T32x32 => large_residue(block, tx, kind, quant),
     }
 }
