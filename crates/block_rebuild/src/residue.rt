@@ -19,7 +19,7 @@ ghost use Rattle.block_rebuild.specs.Residues.{IsWhole, residues_at};
 use crate::residues::TransformResidues;
 use block_geometry::{PlaneBlock, TransformGrid, TransformPlace};
 use intra_predict::side_of;
-use planes::SamplePlane;
+use planes::{SamplePlane, copy_short};
 use vp9_tables::area_of;
 use vp9_types::{Depth, Plane, Sample, TxSize, halved};
 
@@ -142,9 +142,9 @@ fn add_short<P: Sample, const N: usize>(
 {
     let line = samples.row_mut(row, column, N);
     let mut sums = [P::narrow(0); N];
-    sums.copy_from_slice(line);
+    copy_short::<P, N>(&mut sums, line);
     add_line(&mut sums, residue, most);
-    line.copy_from_slice(&sums);
+    copy_short::<P, N>(line, &sums);
 }
 
 /// Adds the residue of a transform block of N rows of N samples, all of them inside of the plane.

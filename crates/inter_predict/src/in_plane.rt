@@ -13,7 +13,7 @@ use crate::places::{is_copied, is_whole};
 use crate::prediction::LINES;
 use crate::rows::{fill_lines, piece_of};
 use inter_places::{Place, straight};
-use planes::{RowMaker, SamplePlane};
+use planes::{RowMaker, SamplePlane, copy_short};
 use tap_filter::FilterSample;
 use vp9_types::{InterpFilter, Sample, Samples};
 
@@ -39,8 +39,8 @@ impl<'a, P: Sample, const N: usize> RowMaker<P, N> for CopiedRows<'a, P> {
         let at = i * self.stride + self.from;
         // a line of its own, since what is read might be what is written
         let mut line = [P::narrow(0); N];
-        line.copy_from_slice(&samples[at..at + N]);
-        row.copy_from_slice(&line);
+        copy_short::<P, N>(&mut line, &samples[at..at + N]);
+        copy_short::<P, N>(row, &line);
     }
 }
 

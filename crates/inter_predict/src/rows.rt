@@ -11,6 +11,7 @@ use crate::lines::put_line;
 use crate::piece_lines::fill_piece;
 use crate::places::{copied_columns, is_among, run_columns};
 use inter_places::{Place, straight};
+use planes::copy_short;
 use tap_filter::FilterSample;
 use vp9_types::{Sample, Samples};
 
@@ -169,7 +170,9 @@ pub(crate) fn put_run<P: Sample, const N: usize>(lines: &mut [P], i: usize, row:
     ensures before { (k : ℕ) → k < i * N → slice_index (map P.value lines.new) k ≡ slice_index (map P.value lines.old) k }
 {
     let at = i * N;
-    lines[at..at + N].copy_from_slice(&row[from..from + N]);
+    let mut line = [P::narrow(0); N];
+    copy_short::<P, N>(&mut line, &row[from..from + N]);
+    copy_short::<P, N>(&mut lines[at..at + N], &line);
 }
 
 /// Lines of N samples as they are: each width has a loop of its own.

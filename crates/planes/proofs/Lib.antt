@@ -1,3 +1,4 @@
 pub mod RowLemmas
 pub mod PlaneLemmas
 pub mod PictureLemmas
+mod ShortRows

@@ -31,6 +31,31 @@ pub(crate) fn copy_rows<P: Sample>(
     }
 }
 
+/// Copies N samples, by a loop of known length, which stays in registers. What is read and what is written by it may not be known to lie
+/// apart: then a line of their own between them keeps the compiler from testing whether they do.
+#[inline(always)]
+pub fn copy_short<P: Sample, const N: usize>(to: &mut [P], samples: &[P])
+    requires room { length to.old ≡ N }
+    requires long { length samples.now ≡ N }
+    ensures { (j : ℕ) → j < N → slice_index (map P.value to.new) j ≡ slice_index (map P.value samples.now) j }
+{
+    for j in 0..N {
+        to[j] = samples[j];
+    }
+}
+
+/// Copies N samples by way of a line of their own, since what is read by reference might be what is written.
+#[inline(always)]
+fn copy_row<P: Sample, const N: usize>(to: &mut [P], samples: &[P])
+    requires room { length to.old ≡ N }
+    requires long { length samples.now ≡ N }
+    ensures { (j : ℕ) → j < N → slice_index (map P.value to.new) j ≡ slice_index (map P.value samples.now) j }
+{
+    let mut line = [P::narrow(0); N];
+    copy_short::<P, N>(&mut line, samples);
+    copy_short::<P, N>(to, &line);
+}
+
 /// Copies rows of N samples to a row and column of rows of `width` samples.
 #[inline(always)]
 pub(crate) fn copy_columns<P: Sample, const N: usize>(
@@ -52,7 +77,7 @@ pub(crate) fn copy_columns<P: Sample, const N: usize>(
 {
     let mut place = row * width + column;
     for i in 0..rows {
-        samples[place..place + N].copy_from_slice(&block[i * N..i * N + N]);
+        copy_row::<P, N>(&mut samples[place..place + N], &block[i * N..i * N + N]);
         place += width;
     }
 }

@@ -9,6 +9,7 @@ mod picture;
 mod plane;
 
 pub use area::Area;
+pub use copies::copy_short;
 pub use frame_planes::{FramePlanes, coded_area};
 pub use makers::RowMaker;
 pub use picture::Picture;
