@@ -1,8 +1,8 @@
 -- The frames that are kept, one more of them looked at.
-use Rattle.std.proofs.Common.{◌≡◌, ◌∙◌, ℕ, ◌+◌, ◌<◌, Bool, true, false, List, [], ◌∷◌, ◌++◌, length, map, take, get_or, Option, ap, sym, refl, if◌then◌else◌}
+use Rattle.std.proofs.Common.{arith, ◌≡◌, ◌∙◌, ℕ, ◌+◌, ◌<◌, Bool, true, false, List, [], ◌∷◌, ◌++◌, length, map, take, get_or, Option, ap, sym, refl, if◌then◌else◌}
 use Rattle.std.proofs.lemmas.List.{append-nil, map-append, map_push, take_more}
 use Rattle.std.proofs.lemmas.List.Elements.{filter-append}
-use Rattle.job_crew.specs.Code.{is_named, mapped, kept}
+use Rattle.job_crew.specs.Code.{is_named, mapped, kept, narrowed}
 
 -- one frame behind others
 one_behind : (live : List (Option ℕ)) (frames : List ℕ) (frame : ℕ) (named : Bool) → is_named live frame ≡ named
@@ -38,3 +38,9 @@ module _ {A : Type 0} (number : A → ℕ) where
       → mapped cells number ≡ first ∷ kept live (mapped (take at before) number) → mapped cells number ≡ first ∷ kept live (mapped (take (at + 1) before) number)
   is_let_go live before cells at first y inside is named so =
       so ∙ ap (λ l. first ∷ l) (sym (at_place live before at y false inside is named ∙ append-nil (kept live (map number (take at before)))))
+
+-- where there are none
+pub narrowed_none : {A : Type 0} (named : List (Option ℕ)) (xs : List A) (f : A → ℕ) → length xs ≡ 0 → [] ≡ narrowed named (mapped xs f)
+unfolding narrowed
+narrowed_none named [] f none = refl
+narrowed_none named (x ∷ xs) f none = absurd (omega (arith, none))

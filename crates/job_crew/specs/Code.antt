@@ -135,6 +135,11 @@ is_named live frame = list_any (λ name. option_eq nat_eq name (Some frame)) liv
 abbrev pub kept : List (Option ℕ) → List ℕ → List ℕ
 kept live frames = filter (is_named live) frames
 
+-- the first of them, and of the others those that are named
+unfoldable pub narrowed : List (Option ℕ) → List ℕ → List ℕ
+narrowed named [] = []
+narrowed named (n ∷ frames) = n ∷ kept named frames
+
 -- the first of these that has the number
 abbrev pub numbered : {A : Type 0} → List A → (A → ℕ) → ℕ → Option A
 numbered xs number n = find (λ x. nat_eq (number x) n) xs

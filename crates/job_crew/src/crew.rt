@@ -12,9 +12,9 @@ ghost use Rattle.job_crew.specs.Left.{HasRightResults};
 
 use crate::cells::Cell;
 use crate::finished::Finished;
-use crate::frame::Frame;
+use crate::frame::{Frame, Shared};
 use crate::frames::Frames;
-use crate::jobs::{Jobs, LIVE, Layout, Output, Start, Window};
+use crate::jobs::{Jobs, LIVE, Layout, Output, Start, Window, named};
 use crate::left::{Ran, left_of};
 use crate::lent::Lent;
 use crate::news::{NO_BANDS, News};
@@ -27,7 +27,7 @@ use job_order::{Meaning, Segment};
 use progress_board::{Board, Refused, Seat};
 use std::alloc::{AllocError, Global};
 use std::marker::{Brand, PhantomData};
-use std::sync::{Condvar, Mutex, OnceLock, Wait};
+use std::sync::{Arc, Condvar, Mutex, OnceLock, Wait};
 use std::thread;
 use std::thread::Threads;
 use vp9_types::{BandSpan, JobName};
@@ -477,13 +477,35 @@ impl<
         }
     }
 
+    // The closed frame with no more of the frames before it than is still asked for. Where there is no memory for it, it keeps what it has.
+    fn narrowed(&self, held: &Held<X, M>, close: &X) -> Option<Shared<Frame<X, M>>> {
+        match held {
+            Some(loan) => {
+                let frame = loan.at_work.frame();
+                let named = named::<X, M, K, J>(self.run.jobs, close);
+                let narrowed = frame.narrowed(self.run.alloc, &named).ok()?;
+                Arc::new(self.run.alloc, narrowed).ok()
+            }
+            None => None,
+        }
+    }
+
+    fn narrow<R: Wait>(&self, rt: &R, narrowed: Option<Shared<Frame<X, M>>>) {
+        if let Some(frame) = narrowed {
+            let gone = self.shop.lock(rt).frames.narrow(frame);
+            drop(gone);
+        }
+    }
+
     fn do_close<R: Wait>(&self, rt: &R, held: Held<X, M>, frame: u64)
         requires due { IsDue M.rules M.truth (Close frame) }
     {
         let job = JobName::Close { frame };
         let value = self.run.jobs.run(job, &self.lent_of(rt, &held));
         let segment = self.built(frame, &value);
+        let narrowed = self.narrowed(&held, &value);
         self.complete(rt, held, News::new(job, Some(segment)), value);
+        self.narrow(rt, narrowed);
     }
 
     fn give_outlet(&self, seat: &mut Seat<Placed<X, M, K, W>>, content: Content<X, M, K, W>)

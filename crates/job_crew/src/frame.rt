@@ -3,7 +3,7 @@ ghost use Rattle.std.specs.Option.{option_map};
 ghost use Rattle.std.specs.Arc.{arc_value};
 ghost use Rattle.job_order.specs.Sound.{frame_of};
 ghost use Rattle.job_crew.specs.Events.{HasHappened};
-ghost use Rattle.job_crew.specs.Code.{is_named, mapped, kept, numbered, HasHeadCell, HasRowCell, HasLastingCell};
+ghost use Rattle.job_crew.specs.Code.{is_named, mapped, kept, narrowed, numbered, HasHeadCell, HasRowCell, HasLastingCell};
 
 use crate::cells::{Cell, FrameCells, HeadCells, frame_of, get};
 use job_order::Meaning;
@@ -16,8 +16,8 @@ pub(crate) type Shared<T> = Arc<T, Global>;
 
 /// A frame at work: those of its results that later frames may ask for, and those of the frames before it that its jobs and the next head may
 /// ask for. These are the filtered rows of the frame before it, and of what that one has those that its close names as live; and of heads and
-/// closes, which are large, those of the frame before it alone. So a result is there as long as a job that may ask for it isn't done, and goes
-/// with the last frame that has it.
+/// closes, which are large, those of the frame before it alone. Once it is closed it keeps of the others only what is still asked for. So a
+/// result is there as long as a job that may ask for it isn't done, and goes with the last frame that has it.
 #[derive(Drop)]
 pub(crate) struct Frame<X: Drop, M: Meaning<X>> {
     pub(crate) own: Shared<FrameCells<X, M>>,
@@ -57,6 +57,31 @@ fn keep<X: Drop, M: Meaning<X>>(
         }
     }
     Ok(cells)
+}
+
+// The first of some cells, and of the others those that are named.
+fn narrow<X: Drop, M: Meaning<X>>(
+    alloc: Global,
+    before: &[Shared<FrameCells<X, M>>],
+    named: &[Option<u64>],
+) -> Result<Vec<Shared<FrameCells<X, M>>>, AllocError>
+    ensures { IfOk result (λ cells. mapped cells.items (λ c. (arc_value c).frame) ≡ narrowed named.now (mapped before.now (λ c. (arc_value c).frame))) }
+{
+    match before.split_first() {
+        Some((last, others)) => keep(alloc, last, others, named),
+        None => Ok(Vec::new(alloc)),
+    }
+}
+
+fn cloned<X: Drop, M: Meaning<X>>(
+    heads: &Option<Shared<HeadCells<X, M>>>,
+) -> Result<Option<Shared<HeadCells<X, M>>>, AllocError>
+    ensures { IfOk result (λ cloned. option_map arc_value cloned ≡ option_map arc_value heads.now) }
+{
+    match heads {
+        Some(heads) => Ok(Some(Arc::try_clone(heads)?)),
+        None => Ok(None),
+    }
 }
 
 fn blank<X: Drop, M: Meaning<X>>(
@@ -110,6 +135,26 @@ impl<X: Drop, M: Meaning<X>> Frame<X, M> {
             before: keep(alloc, &self.own, &self.before, live)?,
             heads: blank_heads(alloc, frame)?,
             heads_before: Some(Arc::try_clone(&self.heads)?),
+        })
+    }
+
+    /// The same frame when it is closed. It keeps the rows of the frame before it, among whose cells is its write's, and of the others those of
+    /// what is named.
+    pub(crate) fn narrowed(
+        &self,
+        alloc: Global,
+        named: &[Option<u64>],
+    ) -> Result<Frame<X, M>, AllocError>
+        ensures own { IfOk result (λ f. arc_value f.own ≡ arc_value self.now.own) }
+        ensures before { IfOk result (λ f. mapped f.before.items (λ c. (arc_value c).frame) ≡ narrowed named.now (mapped self.now.before.items (λ c. (arc_value c).frame))) }
+        ensures heads { IfOk result (λ f. arc_value f.heads ≡ arc_value self.now.heads) }
+        ensures heads_before { IfOk result (λ f. option_map arc_value f.heads_before ≡ option_map arc_value self.now.heads_before) }
+    {
+        Ok(Frame {
+            own: Arc::try_clone(&self.own)?,
+            before: narrow(alloc, &self.before, named)?,
+            heads: Arc::try_clone(&self.heads)?,
+            heads_before: cloned(&self.heads_before)?,
         })
     }
 

@@ -5,6 +5,7 @@ ghost use Rattle.std.specs.Arc.{arc_value};
 ghost use Rattle.job_crew.specs.Events.{IsLogged};
 
 use crate::cells::frame_of;
+use crate::frame::{Frame, Shared};
 use crate::jobs::Window;
 use crate::work::{AtWork, FrameWork, Gone, Loan, nothing};
 use job_order::Meaning;
@@ -52,6 +53,14 @@ impl<X: Drop, M: Meaning<X>> Frames<X, M> {
         } else {
             None
         }
+    }
+
+    /// Has a frame with less of the frames before it from then on, where it is there. What it had is handed back.
+    pub(crate) fn narrow(&mut self, frame: Shared<Frame<X, M>>) -> Option<Shared<Frame<X, M>>>
+        ensures same { length self.new.frames.items ≡ length self.old.frames.items }
+    {
+        let at = self.place(frame.number())?;
+        Some(self.frames[at].narrow(frame))
     }
 
     /// Sets the result of a job, and takes back what the job was lent, with what no job asks for from then on.

@@ -10,6 +10,7 @@ use crate::frame::{Frame, Shared};
 use crate::jobs::{Layout, Window};
 use job_order::Meaning;
 use std::alloc::{AllocError, Global};
+use std::mem::replace;
 use std::sync::Arc;
 use vp9_types::JobName;
 
@@ -208,6 +209,16 @@ impl<X: Drop, M: Meaning<X>> FrameWork<X, M> {
         ensures { result.now ≡ self.now.at_work }
     {
         &self.at_work
+    }
+
+    /// Has the frame with less of the frames before it from then on. The one that it had is handed back.
+    pub(crate) fn narrow(&mut self, frame: Shared<Frame<X, M>>) -> Shared<Frame<X, M>>
+        ensures frame { self.new.at_work.frame ≡ frame }
+        ensures old { result ≡ self.old.at_work.frame }
+        ensures columns { self.new.at_work.columns ≡ self.old.at_work.columns }
+        ensures strips { self.new.strips ≡ self.old.strips }
+    {
+        replace(&mut self.at_work.frame, frame)
     }
 
     /// Sets the head's result.

@@ -9,9 +9,10 @@ ghost use Rattle.job_rows.specs.job_results.Groups.{IsNoEnd, in_film, group_rule
 ghost use Rattle.job_rows.specs.job_results.Meaning.{decode_rules, decode_truth};
 ghost use Rattle.job_rows.specs.job_results.JobResults.{IsRight};
 
-use crate::kept_frames::{KeptFrames, Shared, Slots};
+use crate::kept_frames::{KeptFrames, Shared};
 use crate::lookup::{FilmResults, in_film};
 use crate::output::DecodeSink;
+use crate::reads::frames_read;
 use crate::writes::write;
 use edge_io::Sink;
 use job_crew::{Building, FrameResults, Jobs, LIVE, LastResult, Layout, Results};
@@ -33,6 +34,8 @@ pub struct JobDecoder<'j, 'a, B: DecodeRun, T> {
     alloc: Global,
     list: FrameList<'a, B>,
     kept: Mutex<Shared<KeptFrames<'a, B>>>,
+    // how many frames of the film are written
+    written: Mutex<u64>,
 }
 
 impl<'j, 'a, B: DecodeRun, T> Model for JobDecoder<'j, 'a, B, T> {
@@ -75,6 +78,25 @@ fn live_frames(first: u64, slots: &[Option<u64>; 8]) -> [Option<u64>; LIVE] {
     live
 }
 
+/// The frames of the film that the rows of a closed frame read, and that slots hold behind it, and the one before it.
+fn named_by(number: u64, closed: &ClosedFrame) -> [Option<u64>; 12] {
+    let mut named = [None; 12];
+    named[..8].copy_from_slice(&closed.kept.slots);
+    named[8..11].copy_from_slice(&frames_read(&closed.reads));
+    named[11] = number.checked_sub(1);
+    named
+}
+
+/// The frames of the group that a closed frame's rows read.
+fn read_frames(first: u64, closed: &ClosedFrame) -> [Option<u64>; LIVE] {
+    let [last, golden, altref] = frames_read(&closed.reads);
+    let mut read = [None; LIVE];
+    read[0] = number_in(first, last);
+    read[1] = number_in(first, golden);
+    read[2] = number_in(first, altref);
+    read
+}
+
 /// The bands, where they are of a frame of the group. Those of one before it are there.
 fn span_in(first: u64, span: Option<BandSpan>) -> Option<BandSpan>
     ensures { result ≡ span_in first span }
@@ -96,11 +118,13 @@ impl<'j, 'a, B: DecodeRun, T> JobDecoder<'j, 'a, B, T> {
     ) -> JobDecoder<'j, 'a, B, T>
         requires starts { IsDue (decode_rules B.format B.film) (decode_truth B.format B.film) (Head B.first) }
     {
+        let written = Mutex::new(list.first());
         JobDecoder {
             rt,
             alloc,
             list,
             kept: Mutex::new(kept),
+            written,
         }
     }
 
@@ -165,15 +189,28 @@ impl<'j, 'a, B: DecodeRun, T> JobDecoder<'j, 'a, B, T> {
 }
 
 impl<'j, 'a, B: DecodeRun, T: Wait> JobDecoder<'j, 'a, B, T> {
-    /// Lets go of the frames before the group that no slot holds behind a frame that is written: the jobs of that frame and of those before
-    /// it are done, and later ones ask for none of these.
-    fn keep_named(&self, slots: &Slots) {
+    /// Lets go of the frames before the group that aren't named.
+    fn keep_named(&self, named: &[Option<u64>]) {
         let mut kept = self.kept.lock(self.rt);
-        if kept.are_named(slots) {
+        if kept.are_named(named) {
             return;
         }
-        if let Ok(named) = kept.named(self.alloc, slots) {
-            *kept = named;
+        if let Ok(frames) = kept.named(self.alloc, named) {
+            *kept = frames;
+        }
+    }
+
+    /// A frame is written: the jobs of it and of those before it are done, and later ones ask for no frame that no slot holds behind it.
+    fn is_written(&self, number: u64, closed: &ClosedFrame) {
+        *self.written.lock(self.rt) = number.saturating_add(1);
+        self.keep_named(&closed.kept.slots);
+    }
+
+    /// A frame is closed. If all before it are written, its own jobs ask for what its rows read, and for the frame before it, and later ones for
+    /// what slots hold behind it.
+    fn is_closed(&self, number: u64, closed: &ClosedFrame) {
+        if *self.written.lock(self.rt) == number {
+            self.keep_named(&named_by(number, closed));
         }
     }
 }
@@ -218,6 +255,13 @@ impl<'j, 'a, B: DecodeRun, K: Sink, T: Wait> Jobs<JobResult<'a>, Group<B>, Decod
         }
     }
 
+    fn read(&self, close: &JobResult<'a>) -> [Option<u64>; LIVE] {
+        match close {
+            JobResult::Closed(closed) => read_frames(self.list.first(), closed),
+            _ => [None; LIVE],
+        }
+    }
+
     fn reads<R: Results<JobResult<'a>, Group<B>>>(
         &self,
         frame: u64,
@@ -244,7 +288,18 @@ impl<'j, 'a, B: DecodeRun, K: Sink, T: Wait> Jobs<JobResult<'a>, Group<B>, Decod
         if let JobName::End { frame } = job {
             return JobResult::Ended(*ended::<B, R>(results, frame));
         }
-        self.run_named(self.named(job), &self.seen(results))
+        let named = self.named(job);
+        let seen = self.seen(results);
+        if let JobName::Rows {
+            frame,
+            column: 0,
+            row: 0,
+        } = named
+        {
+            let closed = closed::<B, FilmResults<'_, 'a, B, R, T>>(&seen, frame);
+            self.is_closed(frame, closed);
+        }
+        self.run_named(named, &seen)
     }
 
     fn starved(&self, _frame: u64) -> JobResult<'a> {
@@ -269,10 +324,8 @@ impl<'j, 'a, B: DecodeRun, K: Sink, T: Wait> Jobs<JobResult<'a>, Group<B>, Decod
             Ok(()) => {}
             Err(fault) => return JobResult::Refused(fault),
         }
-        let slots = closed::<B, FilmResults<'_, 'a, B, R, T>>(&seen, number)
-            .kept
-            .slots;
-        self.keep_named(&slots);
+        let closed = closed::<B, FilmResults<'_, 'a, B, R, T>>(&seen, number);
+        self.is_written(number, closed);
         JobResult::Written
     }
 

@@ -83,9 +83,9 @@ fn put<'a, B: DecodeRun>(
     Ok(())
 }
 
-/// Whether a slot holds the frame.
-pub(crate) fn is_named(slots: &Slots, frame: u64) -> bool {
-    slots.contains(&Some(frame))
+/// Whether the frame is named.
+pub(crate) fn is_named(named: &[Option<u64>], frame: u64) -> bool {
+    named.contains(&Some(frame))
 }
 
 impl<'a, B: DecodeRun> KeptFrames<'a, B> {
@@ -150,26 +150,26 @@ impl<'a, B: DecodeRun> KeptFrames<'a, B> {
         }
     }
 
-    /// Whether slots hold all of these frames.
-    pub(crate) fn are_named(&self, slots: &Slots) -> bool {
+    /// Whether all of these frames are named.
+    pub(crate) fn are_named(&self, named: &[Option<u64>]) -> bool {
         for at in 0..self.frames.len() {
-            if !is_named(slots, self.frames[at].results().frame) {
+            if !is_named(named, self.frames[at].results().frame) {
                 return false;
             }
         }
         true
     }
 
-    /// Those of these frames that slots hold.
+    /// Those of these frames that are named.
     pub(crate) fn named(
         &self,
         alloc: Global,
-        slots: &Slots,
+        named: &[Option<u64>],
     ) -> Result<Shared<KeptFrames<'a, B>>, AllocError> {
         let mut frames = Vec::new(alloc);
         for at in 0..self.frames.len() {
             let kept = &self.frames[at];
-            if is_named(slots, kept.results().frame) {
+            if is_named(named, kept.results().frame) {
                 frames.push(Arc::try_clone(kept)?)?;
             }
         }

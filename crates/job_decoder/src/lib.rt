@@ -9,6 +9,7 @@ mod kept_frames;
 mod lookup;
 mod output;
 mod past;
+mod reads;
 mod whole;
 mod writes;
 
