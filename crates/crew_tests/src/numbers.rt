@@ -93,11 +93,8 @@ impl<'a, const FRAMES: u64, const COLUMNS: u32, const ROWS: u32> Jobs<
         slots_after(close.value())
     }
 
-    fn read(&self, close: &Number<'a>) -> [Option<u64>; LIVE] {
-        match close.value().checked_sub(1) {
-            Some(before) => slots_after(before),
-            None => [None; LIVE],
-        }
+    fn is_apart(&self, close: &Number<'a>) -> bool {
+        close.value() == 0
     }
 
     fn reads<R: Results<Number<'a>, Numbers<FRAMES, COLUMNS, ROWS>>>(

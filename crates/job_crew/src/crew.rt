@@ -14,7 +14,7 @@ use crate::cells::Cell;
 use crate::finished::Finished;
 use crate::frame::{Frame, Shared};
 use crate::frames::Frames;
-use crate::jobs::{Jobs, LIVE, Layout, Output, Start, Window, named};
+use crate::jobs::{Jobs, LIVE, Layout, Output, Start, Window};
 use crate::left::{Ran, left_of};
 use crate::lent::Lent;
 use crate::news::{NO_BANDS, News};
@@ -477,17 +477,18 @@ impl<
         }
     }
 
-    // The closed frame with no more of the frames before it than is still asked for. Where there is no memory for it, it keeps what it has.
+    // The closed frame with no more of the frames before it than is still asked for, where its rows read none of them: then it is a key frame for
+    // the most part, and much goes. Any other keeps what it has until it is written, and so does one for which there is no memory.
     fn narrowed(&self, held: &Held<X, M>, close: &X) -> Option<Shared<Frame<X, M>>> {
-        match held {
-            Some(loan) => {
-                let frame = loan.at_work.frame();
-                let named = named::<X, M, K, J>(self.run.jobs, close);
-                let narrowed = frame.narrowed(self.run.alloc, &named).ok()?;
-                Arc::new(self.run.alloc, narrowed).ok()
-            }
-            None => None,
+        let Some(loan) = held else {
+            return None;
+        };
+        if !self.run.jobs.is_apart(close) {
+            return None;
         }
+        let (alloc, live) = (self.run.alloc, self.run.jobs.live(close));
+        let narrowed = loan.at_work.frame().narrowed(alloc, &live).ok()?;
+        Arc::new(alloc, narrowed).ok()
     }
 
     fn narrow<R: Wait>(&self, rt: &R, narrowed: Option<Shared<Frame<X, M>>>) {

@@ -16,7 +16,7 @@ pub(crate) type Shared<T> = Arc<T, Global>;
 
 /// A frame at work: those of its results that later frames may ask for, and those of the frames before it that its jobs and the next head may
 /// ask for. These are the filtered rows of the frame before it, and of what that one has those that its close names as live; and of heads and
-/// closes, which are large, those of the frame before it alone. Once it is closed it keeps of the others only what is still asked for. So a
+/// closes, which are large, those of the frame before it alone. Once it is closed and reads none of them it keeps of the others only what is still asked for. So a
 /// result is there as long as a job that may ask for it isn't done, and goes with the last frame that has it.
 #[derive(Drop)]
 pub(crate) struct Frame<X: Drop, M: Meaning<X>> {
@@ -138,8 +138,8 @@ impl<X: Drop, M: Meaning<X>> Frame<X, M> {
         })
     }
 
-    /// The same frame when it is closed. It keeps the rows of the frame before it, among whose cells is its write's, and of the others those of
-    /// what is named.
+    /// The same frame when it is closed and reads none of those before it. It keeps the rows of the frame before it, among whose cells is its
+    /// write's, and of the others those of what is named.
     pub(crate) fn narrowed(
         &self,
         alloc: Global,

@@ -66,8 +66,8 @@ impl Window for Brand {
 /// Results of jobs that are done, lent to a job that needs them.
 pub trait Results<X, M: Meaning<X>> {
     /// The result of a job that the borrower needs, or that one of these needs in turn: one of the borrower's own frame; the head or the close
-    /// of the frame before it; or a filter of that frame, or of one that its close names as live, and once the borrower's own frame is closed,
-    /// of one that this close names as live or as read. Such a head has found a frame, and such a close has built one.
+    /// of the frame before it; or a filter of that frame, or of one that its close names as live, and once the borrower's own frame is closed
+    /// and is apart from others, of one that this close names as live. Such a head has found a frame, and such a close has built one.
     fn result(&self, job: JobName) -> &X
         ensures right { M.truth.right job result.now }
         ensures event { HasHappened M.rules job result.now }
@@ -98,9 +98,9 @@ pub trait Jobs<X, M: Meaning<X>, K: Output<X>> {
     /// last one that was decoded. A frame's rows stay only as long as each close behind it names it.
     fn live(&self, close: &X) -> [Option<u64>; LIVE];
 
-    /// The frames before it whose filtered rows the superblock rows of a closed frame read, as its close's result has them. Of the frames that
-    /// aren't among these and that the close doesn't name, a closed frame keeps the one before it alone.
-    fn read(&self, close: &X) -> [Option<u64>; LIVE];
+    /// Whether no superblock row of a closed frame reads other frames, as its close's result has it. Of the frames that the close doesn't name such
+    /// a frame keeps the one before it alone.
+    fn is_apart(&self, close: &X) -> bool;
 
     /// The bands of other frames that a superblock row of a column reads. The frame's close is finished. It is asked again until these
     /// bands are there, while no other worker can ask for a job, so it is to be a look at the results.
@@ -137,15 +137,4 @@ pub trait Jobs<X, M: Meaning<X>, K: Output<X>> {
     /// Whether the output refused a write.
     fn is_refused(&self, write: &X) -> bool
         ensures { result ≡ M.rules.fails write.now };
-}
-
-/// The frames before it whose filtered rows a closed frame's jobs and those of later frames may ask for.
-pub(crate) fn named<X, M: Meaning<X>, K: Output<X>, J: Jobs<X, M, K>>(
-    jobs: &J,
-    close: &X,
-) -> [Option<u64>; 2 * LIVE] {
-    let mut named = [None; 2 * LIVE];
-    named[..LIVE].copy_from_slice(&jobs.live(close));
-    named[LIVE..].copy_from_slice(&jobs.read(close));
-    named
 }

@@ -12,7 +12,7 @@ ghost use Rattle.job_rows.specs.job_results.JobResults.{IsRight};
 use crate::kept_frames::{KeptFrames, Shared};
 use crate::lookup::{FilmResults, in_film};
 use crate::output::DecodeSink;
-use crate::reads::frames_read;
+use crate::reads::is_apart;
 use crate::writes::write;
 use edge_io::Sink;
 use job_crew::{Building, FrameResults, Jobs, LIVE, LastResult, Layout, Results};
@@ -78,23 +78,12 @@ fn live_frames(first: u64, slots: &[Option<u64>; 8]) -> [Option<u64>; LIVE] {
     live
 }
 
-/// The frames of the film that the rows of a closed frame read, and that slots hold behind it, and the one before it.
-fn named_by(number: u64, closed: &ClosedFrame) -> [Option<u64>; 12] {
-    let mut named = [None; 12];
+/// The frames of the film that slots hold behind a closed frame, and the one before it.
+fn named_by(number: u64, closed: &ClosedFrame) -> [Option<u64>; 9] {
+    let mut named = [None; 9];
     named[..8].copy_from_slice(&closed.kept.slots);
-    named[8..11].copy_from_slice(&frames_read(&closed.reads));
-    named[11] = number.checked_sub(1);
+    named[8] = number.checked_sub(1);
     named
-}
-
-/// The frames of the group that a closed frame's rows read.
-fn read_frames(first: u64, closed: &ClosedFrame) -> [Option<u64>; LIVE] {
-    let [last, golden, altref] = frames_read(&closed.reads);
-    let mut read = [None; LIVE];
-    read[0] = number_in(first, last);
-    read[1] = number_in(first, golden);
-    read[2] = number_in(first, altref);
-    read
 }
 
 /// The bands, where they are of a frame of the group. Those of one before it are there.
@@ -206,10 +195,10 @@ impl<'j, 'a, B: DecodeRun, T: Wait> JobDecoder<'j, 'a, B, T> {
         self.keep_named(&closed.kept.slots);
     }
 
-    /// A frame is closed. If all before it are written, its own jobs ask for what its rows read, and for the frame before it, and later ones for
-    /// what slots hold behind it.
+    /// A frame is closed. If its rows read no other and all before it are written, its own jobs ask for none but the frame before it, and later
+    /// ones for what slots hold behind it.
     fn is_closed(&self, number: u64, closed: &ClosedFrame) {
-        if *self.written.lock(self.rt) == number {
+        if is_apart(&closed.reads) && *self.written.lock(self.rt) == number {
             self.keep_named(&named_by(number, closed));
         }
     }
@@ -255,10 +244,10 @@ impl<'j, 'a, B: DecodeRun, K: Sink, T: Wait> Jobs<JobResult<'a>, Group<B>, Decod
         }
     }
 
-    fn read(&self, close: &JobResult<'a>) -> [Option<u64>; LIVE] {
+    fn is_apart(&self, close: &JobResult<'a>) -> bool {
         match close {
-            JobResult::Closed(closed) => read_frames(self.list.first(), closed),
-            _ => [None; LIVE],
+            JobResult::Closed(closed) => is_apart(&closed.reads),
+            _ => false,
         }
     }
 
