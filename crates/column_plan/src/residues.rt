@@ -7,8 +7,9 @@ use crate::chunks::{Chunk, Piece};
 use std::alloc::{AllocError, Global};
 use std::marker::Model;
 
-/// How many values a chunk has room for, if a transform block hasn't more.
-const CHUNK: usize = 16384;
+/// How many values a chunk has room for, if a transform block hasn't more. Small chunks lie where other buffers were, so a long
+/// film takes no more memory than a short one.
+const CHUNK: usize = 2048;
 
 /// The place of no values.
 const NOWHERE: Piece = Piece {
