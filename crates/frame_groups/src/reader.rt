@@ -19,11 +19,28 @@ const GROUP_BYTES: usize = 4 << 20;
 /// And so many packets, however few bytes they have.
 const GROUP_PACKETS: u32 = 1 << 16;
 
-/// How many frames a group has: as many as are waited for, and more up to a number where their packets are at hand.
+/// With so many bytes at hand a source gave more at once than a pipe holds. It is a file, say, and gives the next ones as soon.
+const FILE_LIKE: usize = 1 << 17;
+
+/// How many frames a group has: as many as are waited for, and more up to a number where their packets are at hand, or the source
+/// is like a file.
 #[derive(Clone, Copy, Debug, PartialEq, Eq)]
 pub struct GroupSize {
     pub least: usize,
     pub most: usize,
+}
+
+impl GroupSize {
+    /// The size of a group of a source that has so many bytes at hand.
+    fn with_at_hand(self, bytes: usize) -> GroupSize {
+        if bytes < FILE_LIKE {
+            return self;
+        }
+        GroupSize {
+            least: self.most,
+            most: self.most,
+        }
+    }
 }
 
 /// The frames of an IVF file, taken from a source in groups of whole packets.
@@ -151,6 +168,7 @@ fn take_payloads<S: Source>(
     ensures again { S.faults (packets.source_of reader.new) ≡ S.faults (packets.source_of reader.old) → S.can_fill (packets.source_of reader.new) }
 {
     let mut behind = take_payload(reader, payloads);
+    let size = size.with_at_hand(reader.at_hand());
     let mut frames: usize = 0;
     let mut bytes: usize = 0;
     'packets: for _ in 1..GROUP_PACKETS {

@@ -154,6 +154,11 @@ impl<S: Source> PacketReader<S> {
         answer
     }
 
+    /// How many bytes the source has at hand.
+    pub fn at_hand(&self) -> usize {
+        self.source.at_hand().len()
+    }
+
     /// Whether the next packet is here already, so that taking it waits for nothing.
     pub fn is_next_at_hand(&self) -> bool {
         match self.stage {

@@ -4,7 +4,7 @@ ghost use Rattle.frame_groups.specs.Groups.{IsReady};
 
 use crate::packets::STREAM;
 use crate::readers::Pieces;
-use edge_io::{Failed, MemSource, Source};
+use edge_io::{Buffered, Failed, MemSource, Source};
 use file_frames::{FrameCursor, rate_of_file};
 use frame_groups::{Behind, FrameGroup, GroupReader, GroupSize, Opened, open};
 use std::alloc::{AllocError, Global};
@@ -112,6 +112,37 @@ fn any_pieces(rt: HostRuntime) -> Result<(), Fail> {
         let header = Behind::Broken(Rule::IvfSignature);
         assert_eq!(rt; groups_in_pieces(alloc, b"DKIX", size, 1)?, (1, header));
     }
+    Ok(())
+}
+
+// A file of 300 packets of 1,000 bytes.
+fn long_file(alloc: Global) -> Result<Vec<u8>, AllocError> {
+    let mut file = Vec::new(alloc);
+    file.extend_from_slice(&CUT_SHORT[..32])?;
+    for _ in 0..300 {
+        file.extend_from_slice(b"\xe8\x03\0\0\0\0\0\0\0\0\0\0")?;
+        file.extend_from_slice(&[0; 1000])?;
+    }
+    Ok(file)
+}
+
+// How many frames of it the first group has, of a source that gives so many bytes at a call.
+fn first_group(alloc: Global, size: usize) -> Result<usize, AllocError> {
+    let source = MemSource::new(alloc, &long_file(alloc)?, &[])?;
+    let source = Buffered::new(alloc, Pieces { source, size })?;
+    let mut reader = GroupReader::new(alloc, source);
+    let group = reader.next_group(GroupSize {
+        least: 1,
+        most: 290,
+    });
+    Ok(group.frames(alloc)?.len())
+}
+
+// What a pipe holds is at hand, and no more is waited for; a file has as many as are enough.
+#[test]
+fn a_pipe_is_not_waited_for(rt: HostRuntime) -> Result<(), Fail> {
+    assert_eq!(rt; first_group(rt.alloc(), 1 << 16)?, 64);
+    assert_eq!(rt; first_group(rt.alloc(), 1 << 18)?, 290);
     Ok(())
 }
 
